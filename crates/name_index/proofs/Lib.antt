@@ -1,0 +1,5 @@
+pub mod EveryIndex
+mod Links
+mod Growth
+mod Bits
+mod Walking
