@@ -1,0 +1,10 @@
+pub mod Vocabulary
+pub mod Names
+pub mod Logs
+pub mod Tree
+pub mod Paths
+pub mod Placements
+pub mod Edits
+pub mod Archive
+pub mod Theorems
+pub mod Examples
