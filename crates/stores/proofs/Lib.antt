@@ -1,0 +1,5 @@
+pub mod Places
+pub mod Refusals
+pub mod Asked
+mod Rises
+mod Sets
