@@ -1,0 +1,14 @@
+mod Reached
+mod Joins
+mod Cells
+mod Counts
+mod Queues
+mod Noted
+mod Sets
+mod Taken
+mod Found
+mod Steps
+mod Starts
+mod Ends
+mod Rows
+mod Asked

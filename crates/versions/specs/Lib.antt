@@ -1,0 +1,5 @@
+pub mod Versions
+pub mod Marks
+pub mod Searches
+pub mod Difference
+pub mod Questions
