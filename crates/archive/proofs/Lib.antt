@@ -1,0 +1,10 @@
+mod Counting
+mod Stored
+mod Placing
+mod Cells
+mod Lines
+mod Logs
+mod Writing
+mod Popping
+mod Releasing
+mod Step

@@ -1,0 +1,6 @@
+-- What the contracts cite, in reading order.
+pub mod Archived
+pub mod Times
+pub mod Parts
+pub mod Waiting
+pub mod Calls
