@@ -1,6 +1,6 @@
 -- What the writes to the work list leave in its four parts.
-use mathlib.Core.Path.{_≡_, refl, sym, ap, _∙_}
-use mathlib.Core.Logic.{_⊎_, inl, inr}
+use mathlib.Core.Path.{_≡_, sym, ap, _∙_}
+use mathlib.Core.Logic.{inl, inr}
 use mathlib.Core.List.{List}
 use Prim.Native.Nat.{ℕ, _+_, _*_, _<_, _≤_}
 use native.Mathlib.Omega.{arith}
@@ -9,7 +9,7 @@ use Rattle.std.proofs.shelf.Lists.{getD-set-same, getD-set-other, getD-take, ta
 use Rattle.std.proofs.shelf.Tests.{cases-lt}
 use Rattle.events.specs.Parts.{StoredEvent}
 use Rattle.events.specs.WellFormed.{WellFormed}
-use Rattle.archive.specs.Parts.{none, numberOf, firstOf, behindOf}
+use Rattle.archive.specs.Parts.{none, firstOf}
 use Rattle.archive.specs.Calls.{Cleared}
 use Rattle.archive.proofs.Placing.{Hung}
 

@@ -1,9 +1,9 @@
 -- An event in hand goes into a line or into the queue.
 use mathlib.Core.Path.{_≡_, refl, sym, ap, subst, _∙_}
-use mathlib.Core.Bool.{Bool, true, false, cond}
+use mathlib.Core.Bool.{cond}
 use mathlib.Core.Logic.{_⊎_, inl, inr}
 use mathlib.Core.List.{List, [], _∷_, _++_}
-use Prim.Native.Nat.{ℕ, suc, _+_, _*_, _<_, _≤_}
+use Prim.Native.Nat.{ℕ, suc, _+_, _<_, _≤_}
 use native.Mathlib.Omega.{arith}
 use lib.Dec.{eqb}
 use lib.ListN.{length}
@@ -18,7 +18,7 @@ use Rattle.stores.specs.Questions.{nameAt, parentAt}
 use Rattle.stores.specs.Together.{some-is}
 use Rattle.stores.proofs.Asked.{name-below, parent-below, same-number}
 use Rattle.archive.specs.Times.{timesNamed, timesNumbered}
-use Rattle.archive.specs.Parts.{none, numberOf, firstOf, behindOf, Open, Done, ReadyAt, Chain}
+use Rattle.archive.specs.Parts.{numberOf, firstOf, behindOf, Open, Done, ReadyAt, Chain}
 use Rattle.archive.specs.Waiting.{Waiting}
 use Rattle.archive.proofs.Counting.{one-number, one-name, named-shuffled, named-append}
 use Rattle.archive.proofs.Stored.{event-with-parent, nth-below, names-few}

@@ -1,30 +1,30 @@
 -- An event is written: what waited at it is in hand. Where nothing is in the queue, all are written.
 use mathlib.Core.Path.{_≡_, refl, sym, ap, subst, _∙_}
-use mathlib.Core.Bool.{Bool, true, false, cond}
-use mathlib.Core.Logic.{_⊎_, inl, inr}
-use mathlib.Core.List.{List, [], _∷_, _++_, append-nil}
+use mathlib.Core.Bool.{Bool, true, cond}
+use mathlib.Core.Logic.{inl, inr}
+use mathlib.Core.List.{List, [], _∷_, append-nil}
 use Prim.Native.Nat.{ℕ, zero, suc, _+_, _*_, _<_, _≤_}
 use native.Mathlib.Omega.{arith}
 use lib.Dec.{eqb}
 use lib.ListN.{length, getD, take}
 use Rattle.std.specs.shelf.Lists.{All}
 use Rattle.std.specs.shelf.Maps.{nth}
-use Rattle.std.specs.declared.option.Option.the-variants.{Some, None}
+use Rattle.std.specs.declared.option.Option.the-variants.{Some}
 use Rattle.std.proofs.shelf.Lists.{length-take-le, getD-take}
 use Rattle.std.proofs.shelf.Tests.{cases-eq, cases-lt, eq-eqb, ne-eqb, cond-true, cond-false}
 use Rattle.events.specs.declared.name.Name.{Name}
 use Rattle.events.specs.Parts.{NamedEvent, StoredEvent}
 use Rattle.events.specs.WellFormed.{WellFormed}
 use Rattle.fugue.specs.Names.{same, has}
-use Rattle.fugue.specs.Logs.{namedIn, logOf}
+use Rattle.fugue.specs.Logs.{logOf}
 use Rattle.fugue.specs.Archive.{ArchiveOrder}
 use Rattle.fugue.proofs.Lists.{all-members}
-use Rattle.stores.specs.Questions.{nameAt, parentAt}
+use Rattle.stores.specs.Questions.{nameAt}
 use Rattle.stores.specs.Together.{some-is}
-use Rattle.stores.proofs.Asked.{name-below, parent-below, same-number}
+use Rattle.stores.proofs.Asked.{parent-below, same-number}
 use Rattle.archive.specs.Archived.{inOrder, Archived}
 use Rattle.archive.specs.Times.{timesNamed, timesNumbered}
-use Rattle.archive.specs.Parts.{none, numberOf, firstOf, behindOf, Open, Done, ReadyAt, Chain}
+use Rattle.archive.specs.Parts.{numberOf, firstOf, behindOf, Open, Done, ReadyAt, Chain}
 use Rattle.archive.specs.Waiting.{Waiting}
 use Rattle.archive.proofs.Counting.{one-name, one-number, times-has, fewer-numbers}
 use Rattle.archive.proofs.Stored.{nth-below, name-of}

@@ -1,5 +1,5 @@
 -- One turn: the name that comes first leaves the queue, and its event is written.
-use mathlib.Core.Path.{_≡_, refl, sym, ap, subst, _∙_}
+use mathlib.Core.Path.{_≡_, sym, ap, subst, _∙_}
 use mathlib.Core.Bool.{Bool, not}
 use mathlib.Core.List.{List, [], _∷_, _++_}
 use Prim.Native.Nat.{ℕ, _+_, _-_, _*_, _<_, _≤_}
@@ -14,8 +14,8 @@ use Rattle.events.specs.WellFormed.{WellFormed}
 use Rattle.stores.specs.Questions.{nameAt}
 use Rattle.queue.specs.Heaps.{Popped}
 use Rattle.archive.specs.Times.{timesNamed}
-use Rattle.archive.specs.Parts.{firstOf, ReadyAt}
-use Rattle.archive.specs.Waiting.{Waiting, Handed, Settled, Queue}
+use Rattle.archive.specs.Parts.{firstOf}
+use Rattle.archive.specs.Waiting.{Handed, Settled, Queue}
 use Rattle.archive.proofs.Stored.{event-with, nth-below}
 use Rattle.archive.proofs.Popping.{popped-count, popped-in, leads-named}
 use Rattle.archive.proofs.Writing.{Written, written-less, next-named, written-more}

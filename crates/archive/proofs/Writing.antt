@@ -1,33 +1,31 @@
 -- The events written so far, and what one more makes of them.
 use mathlib.Core.Path.{_≡_, refl, sym, ap, subst, _∙_}
-use mathlib.Core.Bool.{Bool, true, false, cond, not}
-use mathlib.Core.Logic.{_⊎_, inl, inr}
+use mathlib.Core.Bool.{Bool, false, not}
+use mathlib.Core.Logic.{inl, inr}
 use mathlib.Core.List.{List, [], _∷_, _++_, append-assoc}
-use Prim.Native.Nat.{ℕ, zero, suc, _+_, _*_, _<_, _≤_}
+use Prim.Native.Nat.{ℕ, _+_, _*_, _<_, _≤_}
 use native.Mathlib.Omega.{arith}
-use lib.Dec.{eqb}
 use lib.ListN.{length, getD, set, take}
-use Rattle.std.specs.shelf.Lists.{All, joined}
 use Rattle.std.specs.shelf.Maps.{nth}
-use Rattle.std.specs.declared.option.Option.the-variants.{Some, None}
-use Rattle.std.proofs.shelf.Lists.{take-take, take-more-set, take-set-le, joined-more, length-take-le}
-use Rattle.std.proofs.shelf.Tests.{both-ways, cases-bool, cases-eq, cases-lt, eq-eqb, ne-eqb, cond-true, cond-false, not-false}
+use Rattle.std.specs.declared.option.Option.the-variants.{Some}
+use Rattle.std.proofs.shelf.Lists.{take-take, take-more-set, take-set-le, joined-more}
+use Rattle.std.proofs.shelf.Tests.{both-ways, cases-bool, cases-eq, cases-lt}
 use Rattle.events.specs.declared.name.Name.{Name}
 use Rattle.events.specs.Parts.{NamedEvent, StoredEvent}
 use Rattle.events.specs.WellFormed.{WellFormed}
-use Rattle.fugue.specs.Names.{same, has, _∈_}
+use Rattle.fugue.specs.Names.{has}
 use Rattle.fugue.specs.Logs.{namedIn, logOf}
 use Rattle.fugue.specs.Archive.{Ready, Next, WrittenFrom}
 use Rattle.fugue.proofs.Lists.{all-member, all-members}
-use Rattle.stores.specs.Questions.{nameAt, parentAt}
-use Rattle.stores.proofs.Asked.{name-below, parent-below, same-number}
-use Rattle.archive.specs.Archived.{listed, inOrder, Archived}
-use Rattle.archive.specs.Times.{timesNamed, timesNumbered}
-use Rattle.archive.specs.Parts.{none, numberOf, firstOf, behindOf, Open, Done, ReadyAt, Chain}
+use Rattle.stores.specs.Questions.{nameAt}
+use Rattle.stores.proofs.Asked.{name-below, same-number}
+use Rattle.archive.specs.Archived.{listed, inOrder}
+use Rattle.archive.specs.Times.{timesNamed}
+use Rattle.archive.specs.Parts.{numberOf, Open, Done, ReadyAt}
 use Rattle.archive.specs.Waiting.{Waiting}
-use Rattle.archive.proofs.Counting.{one-name, one-number, has-times, times-has, fewer-numbers}
-use Rattle.archive.proofs.Stored.{names-few, name-of, event-with, nth-below}
-use Rattle.archive.proofs.Placing.{chain-kept, parent-event}
+use Rattle.archive.proofs.Counting.{one-name, has-times, times-has}
+use Rattle.archive.proofs.Stored.{names-few, name-of, nth-below}
+use Rattle.archive.proofs.Placing.{parent-event}
 use Rattle.archive.proofs.Cells.{neither, first-write, second-write, front-cell}
 use Rattle.archive.proofs.Logs.{held-log, from-log, parent-number, parent-name}
 

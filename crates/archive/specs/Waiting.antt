@@ -1,7 +1,7 @@
 -- Where the unwritten events are: in the queue, in a line at one of their parents, or in hand.
 use mathlib.Core.Bool.{Bool}
 use mathlib.Core.Logic.{_⊎_}
-use mathlib.Core.List.{List, [], _∷_}
+use mathlib.Core.List.{List, []}
 use mathlib.Core.Path.{_≡_}
 use Prim.Native.Nat.{ℕ, _+_, _<_, _≤_}
 use lib.ListN.{length, take}
@@ -11,7 +11,7 @@ use Rattle.events.specs.Parts.{StoredEvent}
 use Rattle.stores.specs.Questions.{nameAt, parentAt}
 use Rattle.queue.specs.Heaps.{Heaped}
 use Rattle.archive.specs.Times.{timesNamed, timesNumbered}
-use Rattle.archive.specs.Parts.{firstOf, Open, Done, ReadyAt, Chain}
+use Rattle.archive.specs.Parts.{firstOf, Open, ReadyAt, Chain}
 
 -- `queue` are the names in the queue, `lines p` the events that wait at event p, and `hand` those that wait nowhere yet
 pub record Waiting (events : List StoredEvent) (room : ℕ) (cells : List ℕ) (queue : List Name) (lines : ℕ → List ℕ) (hand : List ℕ) : Type 0 where

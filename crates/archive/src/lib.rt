@@ -7,3 +7,6 @@ mod waiting;
 pub use by_name::ByName;
 pub use by_name::NameOrder;
 pub use order::archive_order;
+
+#[cfg(test)]
+mod tests;

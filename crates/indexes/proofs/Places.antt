@@ -5,9 +5,9 @@ use mathlib.Core.List.{List, [], _∷_, _++_}
 use Prim.Native.Nat.{ℕ, zero, suc, _+_, _<_, _≤_}
 use native.Mathlib.Nat.{add-zero}
 use native.Mathlib.Omega.{arith}
-use borrow.Author.Tests.{eq-eqb, ne-eqb, leb-true, ltb-true}
+use borrow.Author.Tests.{eq-eqb, ne-eqb, leb-true, ltb-true, le-leb, lt-leb, lt-ltb, le-ltb}
 use lib.Dec.{leb, ltb}
-use Rattle.std.proofs.shelf.Tests.{and-parts, not-true}
+use Rattle.std.proofs.shelf.Tests.{and-parts, and-left, and-right, and-from, not-true}
 use Rattle.indexes.specs.Changes.{can-put}
 use lib.ListN.{length, getD, take, drop}
 use Rattle.std.specs.Options.{isSome}
@@ -67,3 +67,20 @@ put-parts es room place c is =
     let outer = and-parts (leb place (length es) && not (isSome (place-of es c))) (ltb (length es) room) is in
     let inner = and-parts (leb place (length es)) (not (isSome (place-of es c))) (outer .0) in
     (leb-true _ _ (inner .0), not-true _ (inner .1), ltb-true _ _ (outer .1))
+
+-- what refuses a put, and what makes one
+
+pub put-past : (es : List Entry) (room place c : ℕ) → length es < place → can-put es room place c ≡ false
+put-past es room place c past =
+    and-left _ (ltb (length es) room) (and-left (leb place (length es)) (not (isSome (place-of es c))) (lt-leb place (length es) past))
+
+pub put-full : (es : List Entry) (room place c : ℕ) → room ≤ length es → can-put es room place c ≡ false
+put-full es room place c full = and-right (leb place (length es) && not (isSome (place-of es c))) _ (le-ltb (length es) room full)
+
+pub put-listed : (es : List Entry) (room place c : ℕ) → isSome (place-of es c) ≡ true → can-put es room place c ≡ false
+put-listed es room place c is =
+    and-left _ (ltb (length es) room) (and-right (leb place (length es)) (not (isSome (place-of es c))) (ap not is))
+
+pub put-made : (es : List Entry) (room place c : ℕ) → place ≤ length es → isSome (place-of es c) ≡ false → length es < room → can-put es room place c ≡ true
+put-made es room place c within new free =
+    and-from (leb place (length es) && not (isSome (place-of es c))) (ltb (length es) room) (and-from (leb place (length es)) (not (isSome (place-of es c))) (le-leb place (length es) within) (ap not new)) (lt-ltb (length es) room free)

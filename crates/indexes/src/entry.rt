@@ -3,14 +3,14 @@ ghost use mathlib.Core.Path.{_≡_};
 ghost use Rattle.indexes.specs.Entries.{is-prepared, is-present, with-prepared, with-effect, renewed};
 
 /// Whether the character is in the text once every event held has had its effect.
-#[derive(Clone, Copy)]
+#[derive(Clone, Copy, PartialEq)]
 pub enum Effect {
     Present,
     Gone,
 }
 
 /// Where the character hangs in the tree: on the right of the root, or beside another character.
-#[derive(Clone, Copy)]
+#[derive(Clone, Copy, PartialEq)]
 pub enum Attachment {
     Root,
     LeftOf(u16),
@@ -19,7 +19,7 @@ pub enum Attachment {
 
 /// A character by its event number. `prepared` is 0 where it is not inserted yet in the prepared
 /// version, 1 where it is present there, and k + 1 where k deletes of that version struck it.
-#[derive(Clone, Copy)]
+#[derive(Clone, Copy, PartialEq)]
 pub struct Entry {
     pub character: u16,
     pub prepared: u32,

@@ -9,10 +9,11 @@ ghost use Rattle.std.specs.Holes.{inserted};
 ghost use Rattle.std.specs.declared.option.Option.the-variants.{Some, None};
 ghost use Rattle.std.specs.shelf.Maps.{nth};
 use crate::entry::Entry;
+use crate::entry::EntryPartialEq;
 use crate::position::PositionIndex;
 
 /// What every question answers at one moment.
-#[derive(Clone, Copy)]
+#[derive(Clone, Copy, PartialEq)]
 pub struct Answers {
     pub capacity: usize,
     pub length: usize,

@@ -12,3 +12,5 @@ mod Starts
 mod Ends
 mod Rows
 mod Asked
+mod Behind
+mod Alike

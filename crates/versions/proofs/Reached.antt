@@ -1,10 +1,13 @@
 -- What the marks from a bound up say of a version, and of two versions where all below the bound is in both.
-use mathlib.Core.Path.{_≡_, sym, _∙_}
+use mathlib.Core.Path.{_≡_, sym, ap, _∙_}
 use mathlib.Core.Logic.{_⊎_, inl, inr, _↔_}
 use mathlib.Core.List.{List}
 use Prim.Native.Nat.{ℕ, _+_, _<_, _≤_}
 use native.Mathlib.Omega.{arith}
 use lib.ListN.{length}
+use Rattle.std.specs.Options.{mapped, flattened}
+use Rattle.std.specs.shelf.Maps.{nth}
+use Rattle.std.specs.declared.option.Option.the-variants.{Some}
 use Rattle.std.proofs.shelf.Tests.{cases-lt, cases-eq}
 use Rattle.events.specs.Parts.{StoredEvent}
 use Rattle.events.specs.WellFormed.{WellFormed}
@@ -12,6 +15,12 @@ use Rattle.stores.proofs.Asked.{parent-below}
 use Rattle.versions.specs.Versions.{Head, Parent, InVersion, head, parent, OnlyIn, Enumerates}
 use Rattle.versions.specs.Marks.{Marked}
 use Rattle.versions.specs.Searches.{Knows}
+
+pub by-head : (es : List StoredEvent) (heads : List ℕ) (x k : ℕ) → nth heads k ≡ Some x → x < length es → InVersion es heads x
+by-head es heads x k at low = head (k, at) low
+
+pub by-parent : (es : List StoredEvent) (heads : List ℕ) (y x k : ℕ) (e : StoredEvent) → nth es y ≡ Some e → nth (e .parents) k ≡ Some x → InVersion es heads y → InVersion es heads x
+by-parent es heads y x k e at is i = parent i (k, ap (λ o. flattened (mapped (λ ps. nth ps k) (mapped (λ (d : StoredEvent). d .parents) o))) at ∙ is)
 
 module _ (es : List StoredEvent) (fit : WellFormed es) where
   pub parent-less : (y x : ℕ) → Parent es y x → x < y

@@ -100,7 +100,7 @@ nth-below (y ∷ xs) (suc n) x h = let l = nth-below xs n x h in omega arith
 pub all-heads : (xs : List ℕ) (k : ℕ) → length xs ≤ k → (x : ℕ) → Among (nth xs) k x ↔ Head xs x
 all-heads xs k long x = ((λ h. (h .0, h .2)), (λ h. (h .0, omega (arith, nth-below xs (h .0) x (h .1)), h .1)))
 
-from-parents : (o : Option StoredEvent) (k p : ℕ) → flattened (mapped (λ ps. nth ps k) (mapped (λ (e : StoredEvent). e .parents) o)) ≡ Some p → (e : StoredEvent) × (o ≡ Some e) × (nth (e .parents) k ≡ Some p)
+pub from-parents : (o : Option StoredEvent) (k p : ℕ) → flattened (mapped (λ ps. nth ps k) (mapped (λ (e : StoredEvent). e .parents) o)) ≡ Some p → (e : StoredEvent) × (o ≡ Some e) × (nth (e .parents) k ≡ Some p)
 from-parents None k p h = absurd (none-some h)
 from-parents (Some e) k p h = (e, refl, h)
 

@@ -3,3 +3,4 @@ pub mod Marks
 pub mod Searches
 pub mod Difference
 pub mod Questions
+pub mod Named

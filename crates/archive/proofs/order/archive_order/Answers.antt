@@ -1,8 +1,7 @@
-use mathlib.Core.Path.{_≡_, refl, sym, ap, subst, _∙_}
-use Prim.Native.Nat.{_*_, _+_, _≤_}
+use mathlib.Core.Path.{ap}
+use Prim.Native.Nat.{_*_, _+_}
 use native.Mathlib.Omega.{arith}
-use lib.ListN.{length, getD, take}
-use Rattle.archive.specs.Calls.{Cleared}
+use lib.ListN.{getD}
 use Rattle.archive.proofs.Cells.{front-cell}
 use Rattle.archive.proofs.order.archive_order.Needs as need
 

@@ -1,9 +1,9 @@
-use mathlib.Core.Path.{_≡_, refl, sym, ap, subst, _∙_}
+use mathlib.Core.Path.{_≡_, refl, subst, _∙_}
 use mathlib.Core.List.{[]}
-use Prim.Native.Nat.{ℕ, _*_, _+_, _-_, _<_}
+use Prim.Native.Nat.{_+_, _-_, _<_}
 use native.Mathlib.Omega.{arith}
 use lib.ListN.{length, take}
-use Rattle.archive.specs.Waiting.{Waiting, Queue}
+use Rattle.archive.specs.Waiting.{Waiting}
 use Rattle.archive.proofs.Lines.{upFrom, all-in-hand, up-next}
 use Rattle.archive.proofs.release.start.Needs as need
 
