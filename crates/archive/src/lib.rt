@@ -1,4 +1,6 @@
 //! The order in which events are archived.
+#![tactic(auto)]
+
 pub mod by_name;
 pub mod order;
 mod release;

@@ -1,4 +1,6 @@
 //! AVL trees over nodes in memory: how they are joined, searched, climbed, changed and built.
+#![tactic(auto)]
+
 pub mod build;
 pub mod change;
 pub mod climb;

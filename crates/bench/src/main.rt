@@ -1,4 +1,6 @@
 //! How long the workloads take: counts go to standard output, times to standard error.
+#![tactic(auto)]
+
 mod graphs;
 
 use anyhow::anyhow;

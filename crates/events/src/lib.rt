@@ -1,4 +1,6 @@
 //! The vocabulary: what an event is, which name comes before which, and the refusals.
+#![tactic(auto)]
+
 pub mod alike;
 pub mod character;
 pub mod deed;

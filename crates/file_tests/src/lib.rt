@@ -1,4 +1,6 @@
 //! Small files word by word, and what reading them answers.
+#![tactic(auto)]
+
 use event_file::{FileView, Reason, Unread};
 use events::{AuthorFirst, BookFault};
 use std::alloc::{AllocError, Global};

@@ -1,4 +1,6 @@
 //! Files in a table, each with the order that it is read for and the answer that reading must give.
+#![tactic(auto)]
+
 mod hex;
 
 use anyhow::anyhow;

@@ -1,4 +1,6 @@
 //! Files by the sibling order that they name, and events and answers in plain words.
+#![tactic(auto)]
+
 pub mod answers;
 pub mod order;
 pub mod orders;

@@ -1,4 +1,6 @@
 //! Event graphs by chance: differences and archive orders against a slow reference.
+#![tactic(auto)]
+
 mod chance;
 mod graphs;
 mod slow;

@@ -1,5 +1,7 @@
 //! Runs the same long pseudo-random sequence of calls over both position indexes, and compares every
 //! answer.
+#![tactic(auto)]
+
 use anyhow::anyhow;
 use avl::{AvlIndex, Node};
 use indexes::{Answers, Attachment, Effect, Entry, FlatIndex, PositionIndex, append, ask_all};

@@ -1,4 +1,6 @@
 //! Position indexes: the trait with its meaning, a list of entries, and the flat index.
+#![tactic(auto)]
+
 pub mod entry;
 pub mod flat;
 pub mod generic;

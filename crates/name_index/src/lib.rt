@@ -1,5 +1,7 @@
 //! An index of names, numbered in the order in which they were added: it finds the number of a name
 //! by looking at 45 names at most.
+#![tactic(auto)]
+
 pub mod index;
 pub mod keep;
 pub mod laws;

@@ -1,3 +1,5 @@
 // A queue that hands out first what comes first: a binary heap in the cells of a slice, over any total order.
+#![tactic(auto)]
+
 pub mod heap;
 pub mod order;

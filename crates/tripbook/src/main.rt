@@ -1,4 +1,6 @@
 //! Trip books from the command line.
+#![tactic(auto)]
+
 mod checks;
 mod days;
 

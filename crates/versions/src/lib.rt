@@ -1,4 +1,6 @@
 //! Versions of a store: what is in the one and not in the other.
+#![tactic(auto)]
+
 pub mod differ;
 pub(crate) mod marks;
 pub(crate) mod noting;
