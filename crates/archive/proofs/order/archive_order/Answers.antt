@@ -3,8 +3,8 @@ use Rattle.archive.proofs.Cells.{front_cell}
 use Rattle.archive.proofs.order.archive_order.Goals as goal
 
 -- the start writes no event
-pub write-all-requires : goal.write-all-requires
-write-all-requires g c =
+pub write_all-requires : goal.write_all-requires
+write_all-requires g c =
     let s = c.args.store.now in
     let es = g.S.EventStore.events s in
     let room = g.S.EventStore.room s in

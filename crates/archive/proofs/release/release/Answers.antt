@@ -3,20 +3,20 @@ use Rattle.archive.specs.Waiting.{Handed}
 use Rattle.archive.proofs.Lines.{steps, handed_steps, handed_more, handed_none, first_below}
 use Rattle.archive.proofs.release.release.Goals as goal
 
-pub overflow-cast-behind : goal.overflow-cast-behind
-overflow-cast-behind g c =
+pub overflow_cast-behind : goal.overflow_cast-behind
+overflow_cast-behind g c =
     let s = c.args.store.now in
     let laws = g.S.EventStore.laws in
     omega (arith, c.loop-w.invariant.3 c.loop-w-test.true, laws.within s, laws.small s)
 
-pub overflow-add-behind : goal.overflow-add-behind
-overflow-add-behind g c =
+pub overflow_add-behind : goal.overflow_add-behind
+overflow_add-behind g c =
     let s = c.args.store.now in
     let laws = g.S.EventStore.laws in
     omega (arith, c.loop-w.invariant.3 c.loop-w-test.true, laws.within s, laws.small s, c.capacity-room.ensures.answer)
 
-pub offset-bounds-work-room-in-loop-w : goal.offset-bounds-work-room-in-loop-w
-offset-bounds-work-room-in-loop-w g c =
+pub offset_bounds-work-room-in-loop-w : goal.offset_bounds-work-room-in-loop-w
+offset_bounds-work-room-in-loop-w g c =
     let s = c.args.store.now in
     let laws = g.S.EventStore.laws in
     omega (arith, c.loop-w.invariant.3 c.loop-w-test.true, laws.within s, laws.small s, c.capacity-room.ensures.answer)
@@ -27,8 +27,8 @@ bounds-work-room-in-loop-w g c =
     let laws = g.S.EventStore.laws in
     omega (arith, c.loop-w.invariant.3 c.loop-w-test.true, laws.within s, laws.small s, c.capacity-room.ensures.answer, c.loop-w.auto.work, c.requires.0)
 
-pub overflow-cast-w : goal.overflow-cast-w
-overflow-cast-w g c =
+pub overflow_cast-w : goal.overflow_cast-w
+overflow_cast-w g c =
     let s = c.args.store.now in
     let laws = g.S.EventStore.laws in
     omega (arith, c.loop-w.invariant.3 c.loop-w-test.true, laws.within s, laws.small s)

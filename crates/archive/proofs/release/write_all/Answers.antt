@@ -7,10 +7,10 @@ use Rattle.archive.proofs.Releasing.{all_written, archived}
 use Rattle.archive.proofs.Step.{Step, step}
 use Rattle.archive.proofs.release.write_all.Given as given
 use Rattle.archive.proofs.release.write_all.Goals as goal
-use Rattle.archive.proofs.release.write_all.Goals.{In-Some-number-of}
+use Rattle.archive.proofs.release.write_all.Goals.{In-Some-number_of}
 
 -- what a turn does
-turn : (g : given.Over) (c : In-Some-number-of g) → Step g.O.SiblingOrder.before (g.S.EventStore.events c.args.store.now) (g.S.EventStore.room c.args.store.now) c.loop-name.work c.loop-name.invariant.0.0 c.loop-name.written c.in-Some.name c.pop.new.cells c.loop-name.queued c.in-Some-number-of.number
+turn : (g : given.Over) (c : In-Some-number_of g) → Step g.O.SiblingOrder.before (g.S.EventStore.events c.args.store.now) (g.S.EventStore.room c.args.store.now) c.loop-name.work c.loop-name.invariant.0.0 c.loop-name.written c.in-Some.name c.pop.new.cells c.loop-name.queued c.in-Some-number_of.number
 turn g c =
     let s = c.args.store.now in
     let laws = g.S.EventStore.laws in
@@ -18,7 +18,7 @@ turn g c =
     step g.O.SiblingOrder.before g.met.O.SiblingOrder.total (g.S.EventStore.events s) (laws.sound s) (g.S.EventStore.room s) (laws.within s)
     c.loop-name.work (omega (arith, c.loop-name.auto.work, c.requires.0)) c.loop-name.written now.0
     c.loop-name.names c.pop.new.cells c.loop-name.queued now.1 now.2 c.pop.auto.cells
-    c.in-Some.name c.in-Some.ensures.after c.in-Some-number-of.number c.in-Some-number-of.ensures.answer
+    c.in-Some.name c.in-Some.ensures.after c.in-Some-number_of.number c.in-Some-number_of.ensures.answer
 
 pub loop-name-init : goal.loop-name-init
 loop-name-init g c =
@@ -30,15 +30,15 @@ loop-name-init g c =
     )
 
 -- each name in the queue is that of an event
-pub returns-in-default-number-of : goal.returns-in-default-number-of
-returns-in-default-number-of g c =
+pub returns-in-default-number_of : goal.returns-in-default-number_of
+returns-in-default-number_of g c =
     let now = c.loop-name.invariant in
     let p = c.in-Some.ensures.after in
     let r = now.1.1.ready c.in-Some.name (popped_in (take c.loop-name.queued c.loop-name.names) _ c.in-Some.name p.elements) in
-    absurd (c.in-default-number-of.ensures.answer r.0 r.1)
+    absurd (c.in-default-number_of.ensures.answer r.0 r.1)
 
-pub offset-bounds-work-written : goal.offset-bounds-work-written
-offset-bounds-work-written g c =
+pub offset_bounds-work-written : goal.offset_bounds-work-written
+offset_bounds-work-written g c =
     let s = c.args.store.now in
     let laws = g.S.EventStore.laws in
     omega (arith, (turn g c).less, laws.within s, laws.small s)
@@ -49,8 +49,8 @@ bounds-work-written g c =
     let laws = g.S.EventStore.laws in
     omega (arith, (turn g c).less, laws.within s, c.loop-name.auto.work, c.requires.0)
 
-pub overflow-cast-work-in-Some : goal.overflow-cast-work-in-Some
-overflow-cast-work-in-Some g c =
+pub overflow_cast-work-in-Some : goal.overflow_cast-work-in-Some
+overflow_cast-work-in-Some g c =
     let s = c.args.store.now in
     let laws = g.S.EventStore.laws in
     omega (arith, (turn g c).less, laws.within s, laws.small s)
@@ -59,17 +59,17 @@ pub bounds-work-room : goal.bounds-work-room
 bounds-work-room g c =
     let s = c.args.store.now in
     let laws = g.S.EventStore.laws in
-    omega (arith, (turn g c).below, laws.within s, c.loop-name.auto.work, c.requires.0, c.capacity-room.ensures.answer, length-set c.loop-name.work c.loop-name.written c.in-Some-number-of.number)
+    omega (arith, (turn g c).below, laws.within s, c.loop-name.auto.work, c.requires.0, c.capacity-room.ensures.answer, length-set c.loop-name.work c.loop-name.written c.in-Some-number_of.number)
 
 pub release-queued-requires : goal.release-queued-requires
 release-queued-requires g c =
     let s = c.args.store.now in
     let es = g.S.EventStore.events s in
     let room = g.S.EventStore.room s in
-    let t = turn g (goal.at.release-queued-requires g c).In-Some-number-of in
+    let t = turn g (goal.at.release-queued-requires g c).In-Some-number_of in
     let cells = c.loop-name.work in
     let k = c.loop-name.written in
-    let e = c.in-Some-number-of.number in
+    let e = c.in-Some-number_of.number in
     let eq = c.capacity-room.ensures.answer in
     let a = length-set cells k e in
     let b = length-set (set cells k e) (c.capacity-room.result + e) k in
@@ -79,16 +79,16 @@ release-queued-requires g c =
       line = subst (λ r. Handed es room (set (set cells k e) (r + e) k) c.pop.new.cells (c.loop-name.queued - 1) (first_of room (set (set cells k e) (r + e) k) e)) (sym eq) t.handed;
     }
 
-pub overflow-add-written : goal.overflow-add-written
-overflow-add-written g c =
+pub overflow_add-written : goal.overflow_add-written
+overflow_add-written g c =
     let s = c.args.store.now in
     let laws = g.S.EventStore.laws in
-    let t = turn g (goal.at.overflow-add-written g c).In-Some-number-of in
+    let t = turn g (goal.at.overflow_add-written g c).In-Some-number_of in
     omega (arith, t.less, laws.within s, laws.small s)
 
 pub loop-name-smaller : goal.loop-name-smaller
 loop-name-smaller g c =
-    let t = turn g (goal.at.loop-name-smaller g c).In-Some-number-of in
+    let t = turn g (goal.at.loop-name-smaller g c).In-Some-number_of in
     omega (arith, t.less)
 
 pub loop-name-preserved : goal.loop-name-preserved
@@ -98,10 +98,10 @@ loop-name-preserved g c =
     let room = g.S.EventStore.room s in
     let laws = g.S.EventStore.laws in
     let before = g.O.SiblingOrder.before in
-    let t = turn g (goal.at.loop-name-preserved g c).In-Some-number-of in
+    let t = turn g (goal.at.loop-name-preserved g c).In-Some-number_of in
     let cells = c.loop-name.work in
     let k = c.loop-name.written in
-    let e = c.in-Some-number-of.number in
+    let e = c.in-Some-number_of.number in
     let past = c.in-Some.name ∷ c.loop-name.invariant.0.0 in
     let w = subst (λ r. Written before es room (set (set cells k e) (r + e) k) past (k + 1)) (sym c.capacity-room.ensures.answer) t.written in (
       (past, written_kept before es (laws.sound s) room (laws.within s) (set (set cells k e) (c.capacity-room.result + e) k) c.release-queued.new.work past (k + 1) c.release-queued.ensures.kept w),

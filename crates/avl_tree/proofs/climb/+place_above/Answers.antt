@@ -24,8 +24,8 @@ index-above-requires t c =
     let w = node a.0.lower a.0.number a.0.entry a.0.upper in
     omega (arith, link_within ns (Some c.in-Some.j) w (record { above = a.0.parent; at = ap Some (sym a.1); holds = a.0.holds }) c.in-Some.j refl, v.ok.0)
 
-pub weight-of-before-requires : goal.weight-of-before-requires
-weight-of-before-requires t c =
+pub weight_of-before-requires : goal.weight_of-before-requires
+weight_of-before-requires t c =
     let u = c.requires.0 in
     let s = c.requires.1 in
     let o = c.requires.2 in
@@ -33,8 +33,8 @@ weight-of-before-requires t c =
     let a = parent_of (vec_items c.args.nodes.now) c.args.i c.index.result.now c.index.ensures u s o c.in-Some.j k c.in-Some.is in
     (a.0.lower, left_held (vec_items c.args.nodes.now) c.args.i c.index.result.now c.index.ensures c.in-Some.j c.index-above.result.now c.in-Some.is c.index-above.ensures u s o k)
 
-pub place-above-requires : goal.place-above-requires
-place-above-requires t c =
+pub place_above-requires : goal.place_above-requires
+place_above-requires t c =
     let ns = vec_items c.args.nodes.now in
     let u = c.requires.0 in
     let s = c.requires.1 in
@@ -43,14 +43,14 @@ place-above-requires t c =
     let a = parent_of (vec_items c.args.nodes.now) c.args.i c.index.result.now c.index.ensures u s o c.in-Some.j k c.in-Some.is in
     let w = node a.0.lower a.0.number a.0.entry a.0.upper in
     let on = climbs_on (vec_items c.args.nodes.now) c.args.i c.index.result.now c.index.ensures c.in-Some.j c.index-above.result.now c.in-Some.is c.index-above.ensures u s o k in
-    let before = ap (λ (x : Weight). x.size) (c.weight-of-before.ensures a.0.lower (left_held (vec_items c.args.nodes.now) c.args.i c.index.result.now c.index.ensures c.in-Some.j c.index-above.result.now c.in-Some.is c.index-above.ensures u s o k)) in
-    let at = from_right (vec_items c.args.nodes.now) c.args.i c.index.result.now c.index.ensures c.in-Some.j c.index-above.result.now c.in-Some.is c.index-above.ensures u s o k (sym c.if-leads-to.ensures) in
+    let before = ap (λ (x : Weight). x.size) (c.weight_of-before.ensures a.0.lower (left_held (vec_items c.args.nodes.now) c.args.i c.index.result.now c.index.ensures c.in-Some.j c.index-above.result.now c.in-Some.is c.index-above.ensures u s o k)) in
+    let at = from_right (vec_items c.args.nodes.now) c.args.i c.index.result.now c.index.ensures c.in-Some.j c.index-above.result.now c.in-Some.is c.index-above.ensures u s o k (sym c.if-leads_to.ensures) in
     let here = load_is ns (Some c.args.i) s (climb_held ns c.args.i u s o k) in
     let there = load_is ns (Some c.in-Some.j) w (climb_held ns c.in-Some.j u w a.0.offset on) in
     (omega (arith, c.decreases, here, there, larger (vec_items c.args.nodes.now) c.args.i c.index.result.now c.index.ensures c.in-Some.j c.index-above.result.now c.in-Some.is c.index-above.ensures u s o k, found_size u w a.0.offset a.0.found, k.small), (u, w, a.0.offset, on, omega (arith, before, at, c.requires.4)))
 
-pub place-above-requires-else-leads-to : goal.place-above-requires-else-leads-to
-place-above-requires-else-leads-to t c =
+pub place_above-requires-else-leads_to : goal.place_above-requires-else-leads_to
+place_above-requires-else-leads_to t c =
     let ns = vec_items c.args.nodes.now in
     let u = c.requires.0 in
     let s = c.requires.1 in
@@ -59,7 +59,7 @@ place-above-requires-else-leads-to t c =
     let a = parent_of (vec_items c.args.nodes.now) c.args.i c.index.result.now c.index.ensures u s o c.in-Some.j k c.in-Some.is in
     let w = node a.0.lower a.0.number a.0.entry a.0.upper in
     let on = climbs_on (vec_items c.args.nodes.now) c.args.i c.index.result.now c.index.ensures c.in-Some.j c.index-above.result.now c.in-Some.is c.index-above.ensures u s o k in
-    let at = from_left (vec_items c.args.nodes.now) c.args.i c.index.result.now c.index.ensures c.in-Some.j c.index-above.result.now c.in-Some.is c.index-above.ensures u s o k (sym c.if-leads-to.ensures) in
+    let at = from_left (vec_items c.args.nodes.now) c.args.i c.index.result.now c.index.ensures c.in-Some.j c.index-above.result.now c.in-Some.is c.index-above.ensures u s o k (sym c.if-leads_to.ensures) in
     let here = load_is ns (Some c.args.i) s (climb_held ns c.args.i u s o k) in
     let there = load_is ns (Some c.in-Some.j) w (climb_held ns c.in-Some.j u w a.0.offset on) in
     (omega (arith, c.decreases, here, there, larger (vec_items c.args.nodes.now) c.args.i c.index.result.now c.index.ensures c.in-Some.j c.index-above.result.now c.in-Some.is c.index-above.ensures u s o k, found_size u w a.0.offset a.0.found, k.small), (u, w, a.0.offset, on, omega (arith, at, c.requires.4)))
@@ -68,19 +68,19 @@ pub returns-in-None : goal.returns-in-None
 returns-in-None t c u s o k =
     omega (arith, at_top (vec_items c.args.nodes.now) c.args.i c.index.result.now c.index.ensures u s o k c.in-None.is)
 
-pub returns-then-leads-to : goal.returns-then-leads-to
-returns-then-leads-to t c u s o k =
+pub returns-then-leads_to : goal.returns-then-leads_to
+returns-then-leads_to t c u s o k =
     let a = parent_of (vec_items c.args.nodes.now) c.args.i c.index.result.now c.index.ensures u s o c.in-Some.j k c.in-Some.is in
     let w = node a.0.lower a.0.number a.0.entry a.0.upper in
-    let before = ap (λ (x : Weight). x.size) (c.weight-of-before.ensures a.0.lower (left_held (vec_items c.args.nodes.now) c.args.i c.index.result.now c.index.ensures c.in-Some.j c.index-above.result.now c.in-Some.is c.index-above.ensures u s o k)) in
-    let at = from_right (vec_items c.args.nodes.now) c.args.i c.index.result.now c.index.ensures c.in-Some.j c.index-above.result.now c.in-Some.is c.index-above.ensures u s o k (sym c.if-leads-to.ensures) in
-    let rest = c.place-above.ensures u w a.0.offset (climbs_on (vec_items c.args.nodes.now) c.args.i c.index.result.now c.index.ensures c.in-Some.j c.index-above.result.now c.in-Some.is c.index-above.ensures u s o k) in
+    let before = ap (λ (x : Weight). x.size) (c.weight_of-before.ensures a.0.lower (left_held (vec_items c.args.nodes.now) c.args.i c.index.result.now c.index.ensures c.in-Some.j c.index-above.result.now c.in-Some.is c.index-above.ensures u s o k)) in
+    let at = from_right (vec_items c.args.nodes.now) c.args.i c.index.result.now c.index.ensures c.in-Some.j c.index-above.result.now c.in-Some.is c.index-above.ensures u s o k (sym c.if-leads_to.ensures) in
+    let rest = c.place_above.ensures u w a.0.offset (climbs_on (vec_items c.args.nodes.now) c.args.i c.index.result.now c.index.ensures c.in-Some.j c.index-above.result.now c.in-Some.is c.index-above.ensures u s o k) in
     omega (arith, before, at, rest)
 
-pub returns-else-leads-to : goal.returns-else-leads-to
-returns-else-leads-to t c u s o k =
+pub returns-else-leads_to : goal.returns-else-leads_to
+returns-else-leads_to t c u s o k =
     let a = parent_of (vec_items c.args.nodes.now) c.args.i c.index.result.now c.index.ensures u s o c.in-Some.j k c.in-Some.is in
     let w = node a.0.lower a.0.number a.0.entry a.0.upper in
-    let at = from_left (vec_items c.args.nodes.now) c.args.i c.index.result.now c.index.ensures c.in-Some.j c.index-above.result.now c.in-Some.is c.index-above.ensures u s o k (sym c.if-leads-to.ensures) in
-    let rest = c.place-above-else-leads-to.ensures u w a.0.offset (climbs_on (vec_items c.args.nodes.now) c.args.i c.index.result.now c.index.ensures c.in-Some.j c.index-above.result.now c.in-Some.is c.index-above.ensures u s o k) in
+    let at = from_left (vec_items c.args.nodes.now) c.args.i c.index.result.now c.index.ensures c.in-Some.j c.index-above.result.now c.in-Some.is c.index-above.ensures u s o k (sym c.if-leads_to.ensures) in
+    let rest = c.place_above-else-leads_to.ensures u w a.0.offset (climbs_on (vec_items c.args.nodes.now) c.args.i c.index.result.now c.index.ensures c.in-Some.j c.index-above.result.now c.in-Some.is c.index-above.ensures u s o k) in
     omega (arith, at, rest)

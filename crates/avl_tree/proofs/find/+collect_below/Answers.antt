@@ -20,26 +20,26 @@ index-node-requires t c =
     let v = c.args.nodes.now in
     omega (arith, link_within (vec_items v) c.args.link c.requires.0 c.requires.1 c.in-Some.j c.in-Some.is, v.ok.0)
 
-pub collect-below-requires : goal.collect-below-requires
-collect-below-requires t c =
+pub collect_below-requires : goal.collect_below-requires
+collect_below-requires t c =
     let o = rooted (vec_items c.args.nodes.now) c.args.link c.requires.0 c.requires.1 c.in-Some.j c.index-node.result.now c.in-Some.is c.index-node.ensures in
     let fall = falls_left (vec_items c.args.nodes.now) c.args.link c.requires.0 c.in-Some.j c.index-node.result.now c.requires.1 o in
     (omega (arith, fall, c.decreases), (o.lower, lefts o, omega (arith, c.requires.2, ap size o.is)))
 
-pub push-reserved-requires : goal.push-reserved-requires
-push-reserved-requires t c =
+pub push_reserved-requires : goal.push_reserved-requires
+push_reserved-requires t c =
     let o = rooted (vec_items c.args.nodes.now) c.args.link c.requires.0 c.requires.1 c.in-Some.j c.index-node.result.now c.in-Some.is c.index-node.ensures in
     let out = c.args.out.now in
-    let long = ap length (c.collect-below.ensures.after o.lower (lefts o)) ∙ length-append (vec_items out) (entries o.lower) in
-    omega (arith, c.requires.2, ap size o.is, long, size_entries o.lower, out.ok.0, c.collect-below.new.out.ok.0, c.collect-below.ensures.kept)
+    let long = ap length (c.collect_below.ensures.after o.lower (lefts o)) ∙ length-append (vec_items out) (entries o.lower) in
+    omega (arith, c.requires.2, ap size o.is, long, size_entries o.lower, out.ok.0, c.collect_below.new.out.ok.0, c.collect_below.ensures.kept)
 
-pub collect-below-requires-in-Some : goal.collect-below-requires-in-Some
-collect-below-requires-in-Some t c =
+pub collect_below-requires-in-Some : goal.collect_below-requires-in-Some
+collect_below-requires-in-Some t c =
     let o = rooted (vec_items c.args.nodes.now) c.args.link c.requires.0 c.requires.1 c.in-Some.j c.index-node.result.now c.in-Some.is c.index-node.ensures in
     let fall = falls_right (vec_items c.args.nodes.now) c.args.link c.requires.0 c.in-Some.j c.index-node.result.now c.requires.1 o in
     let out = c.args.out.now in
-    let long = ap length (c.collect-below.ensures.after o.lower (lefts o)) ∙ length-append (vec_items out) (entries o.lower) in
-    (omega (arith, fall, c.decreases), (o.upper, rights o, omega (arith, c.requires.2, ap size o.is, long, size_entries o.lower, out.ok.0, c.collect-below.new.out.ok.0, c.collect-below.ensures.kept, c.push-reserved.ensures.len, c.push-reserved.ensures.capacity)))
+    let long = ap length (c.collect_below.ensures.after o.lower (lefts o)) ∙ length-append (vec_items out) (entries o.lower) in
+    (omega (arith, fall, c.decreases), (o.upper, rights o, omega (arith, c.requires.2, ap size o.is, long, size_entries o.lower, out.ok.0, c.collect_below.new.out.ok.0, c.collect_below.ensures.kept, c.push_reserved.ensures.len, c.push_reserved.ensures.capacity)))
 
 pub returns-in-Some : goal.returns-in-Some
 returns-in-Some t c =
@@ -47,9 +47,9 @@ returns-in-Some t c =
     record {
       after = λ u h.
           let o = rooted (vec_items c.args.nodes.now) c.args.link u h c.in-Some.j c.index-node.result.now c.in-Some.is c.index-node.ensures in
-          let first = c.collect-below.ensures.after o.lower (lefts o) in
-          let second = c.push-reserved.ensures.items ∙ ap (λ es. es ++ c.index-node.result.now.entry ∷ []) first in
+          let first = c.collect_below.ensures.after o.lower (lefts o) in
+          let second = c.push_reserved.ensures.items ∙ ap (λ es. es ++ c.index-node.result.now.entry ∷ []) first in
           let own = ap (λ (m : Node). (out ++ entries o.lower) ++ m.entry ∷ []) o.cell-is in
-          c.collect-below-in-Some.ensures.after o.upper (rights o) ∙ ap (λ es. es ++ entries o.upper) (second ∙ own) ∙ append_assoc (out ++ entries o.lower) (o.entry ∷ []) (entries o.upper) ∙ append_assoc out (entries o.lower) (o.entry ∷ entries o.upper) ∙ sym (ap (λ v. out ++ entries v) o.is);
-      kept = c.collect-below-in-Some.ensures.kept ∙ c.push-reserved.ensures.capacity ∙ c.collect-below.ensures.kept;
+          c.collect_below-in-Some.ensures.after o.upper (rights o) ∙ ap (λ es. es ++ entries o.upper) (second ∙ own) ∙ append_assoc (out ++ entries o.lower) (o.entry ∷ []) (entries o.upper) ∙ append_assoc out (entries o.lower) (o.entry ∷ entries o.upper) ∙ sym (ap (λ v. out ++ entries v) o.is);
+      kept = c.collect_below-in-Some.ensures.kept ∙ c.push_reserved.ensures.capacity ∙ c.collect_below.ensures.kept;
     }

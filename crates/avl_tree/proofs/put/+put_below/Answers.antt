@@ -13,19 +13,19 @@ index-node-requires t c =
     let v = c.args.nodes.now in
     omega (arith, link_within (vec_items v) c.args.link c.requires.0 c.requires.2.held c.in-Some.j c.in-Some.is, v.ok.0)
 
-pub weight-of-before-requires : goal.weight-of-before-requires
-weight-of-before-requires t c =
+pub weight_of-before-requires : goal.weight_of-before-requires
+weight_of-before-requires t c =
     let o = root_of (vec_items c.args.nodes.now) c.args.link c.in-Some.j c.index-node.result.now c.in-Some.is c.index-node.ensures c.args.place c.args.new c.requires.0 c.requires.1 c.requires.2 in
     (o.lower, lefts o)
 
-pub put-below-low-requires : goal.put-below-low-requires
-put-below-low-requires t c =
+pub put_below-low-requires : goal.put_below-low-requires
+put_below-low-requires t c =
     let ns = vec_items c.args.nodes.now in
     let u = c.requires.0 in
     let x = c.requires.1 in
     let s = c.requires.2 in
     let o = root_of (vec_items c.args.nodes.now) c.args.link c.in-Some.j c.index-node.result.now c.in-Some.is c.index-node.ensures c.args.place c.args.new u x s in
-    let size_is = ap (λ (w : Weight). w.size) (c.weight-of-before.ensures o.lower (lefts o)) in
+    let size_is = ap (λ (w : Weight). w.size) (c.weight_of-before.ensures o.lower (lefts o)) in
     let fall = falls_left ns c.args.link u c.in-Some.j c.index-node.result.now s.held o in
     (omega (arith, fall, c.decreases), (o.lower, x, sprout_left (vec_items c.args.nodes.now) c.args.link c.in-Some.j c.index-node.result.now c.in-Some.is c.index-node.ensures c.args.place c.args.new u x s (omega (arith, size_is, c.if-place-before.true))))
 
@@ -35,17 +35,17 @@ balance-requires t c =
     let x = c.requires.1 in
     let s = c.requires.2 in
     let o = root_of (vec_items c.args.nodes.now) c.args.link c.in-Some.j c.index-node.result.now c.in-Some.is c.index-node.ensures c.args.place c.args.new u x s in
-    let size_is = ap (λ (w : Weight). w.size) (c.weight-of-before.ensures o.lower (lefts o)) in
-    ready_put_left (vec_items c.args.nodes.now) c.args.link c.in-Some.j c.index-node.result.now c.in-Some.is c.index-node.ensures c.args.place c.args.new (vec_items c.put-below-low.new.nodes) c.put-below-low.result c.put-below-low.ensures.after u x s (omega (arith, size_is, c.if-place-before.true))
+    let size_is = ap (λ (w : Weight). w.size) (c.weight_of-before.ensures o.lower (lefts o)) in
+    ready_put_left (vec_items c.args.nodes.now) c.args.link c.in-Some.j c.index-node.result.now c.in-Some.is c.index-node.ensures c.args.place c.args.new (vec_items c.put_below-low.new.nodes) c.put_below-low.result c.put_below-low.ensures.after u x s (omega (arith, size_is, c.if-place-before.true))
 
-pub put-below-high-requires : goal.put-below-high-requires
-put-below-high-requires t c =
+pub put_below-high-requires : goal.put_below-high-requires
+put_below-high-requires t c =
     let ns = vec_items c.args.nodes.now in
     let u = c.requires.0 in
     let x = c.requires.1 in
     let s = c.requires.2 in
     let o = root_of (vec_items c.args.nodes.now) c.args.link c.in-Some.j c.index-node.result.now c.in-Some.is c.index-node.ensures c.args.place c.args.new u x s in
-    let size_is = ap (λ (w : Weight). w.size) (c.weight-of-before.ensures o.lower (lefts o)) in
+    let size_is = ap (λ (w : Weight). w.size) (c.weight_of-before.ensures o.lower (lefts o)) in
     let fall = falls_right ns c.args.link u c.in-Some.j c.index-node.result.now s.held o in
     let place_is = ap (λ m. c.args.place - m - 1) size_is in
     (omega (arith, fall, c.decreases), (o.upper, x, subst (λ q. Sprout ns c.index-node.result.now.right q c.args.new o.upper x) (sym place_is) (sprout_right (vec_items c.args.nodes.now) c.args.link c.in-Some.j c.index-node.result.now c.in-Some.is c.index-node.ensures c.args.place c.args.new u x s (omega (arith, size_is, c.if-place-before.false)))))
@@ -56,17 +56,17 @@ balance-requires-else-place-before t c =
     let x = c.requires.1 in
     let s = c.requires.2 in
     let o = root_of (vec_items c.args.nodes.now) c.args.link c.in-Some.j c.index-node.result.now c.in-Some.is c.index-node.ensures c.args.place c.args.new u x s in
-    let size_is = ap (λ (w : Weight). w.size) (c.weight-of-before.ensures o.lower (lefts o)) in
-    ready_put_right (vec_items c.args.nodes.now) c.args.link c.in-Some.j c.index-node.result.now c.in-Some.is c.index-node.ensures c.args.place c.args.new (vec_items c.put-below-high.new.nodes) c.put-below-high.result (c.args.place - c.weight-of-before.result.size - 1) c.put-below-high.ensures.after u x s (omega (arith, size_is, c.if-place-before.false)) (ap (λ m. c.args.place - m - 1) size_is)
+    let size_is = ap (λ (w : Weight). w.size) (c.weight_of-before.ensures o.lower (lefts o)) in
+    ready_put_right (vec_items c.args.nodes.now) c.args.link c.in-Some.j c.index-node.result.now c.in-Some.is c.index-node.ensures c.args.place c.args.new (vec_items c.put_below-high.new.nodes) c.put_below-high.result (c.args.place - c.weight_of-before.result.size - 1) c.put_below-high.ensures.after u x s (omega (arith, size_is, c.if-place-before.false)) (ap (λ m. c.args.place - m - 1) size_is)
 
 pub returns-then-place-before : goal.returns-then-place-before
 returns-then-place-before t c =
     let ns = vec_items c.args.nodes.now in
     let n = c.index-node.result.now in
-    let test : (l : Tree) → Held ns n.left l → c.args.place ≤ size l = λ l h. omega (arith, ap (λ (w : Weight). w.size) (c.weight-of-before.ensures l h), c.if-place-before.true) in
+    let test : (l : Tree) → Held ns n.left l → c.args.place ≤ size l = λ l h. omega (arith, ap (λ (w : Weight). w.size) (c.weight_of-before.ensures l h), c.if-place-before.true) in
     record {
-      after = put_left (vec_items c.args.nodes.now) c.args.link c.in-Some.j c.index-node.result.now c.in-Some.is c.index-node.ensures c.args.place c.args.new (vec_items c.put-below-low.new.nodes) c.put-below-low.result (vec_items c.balance.new.nodes) c.balance.result test c.put-below-low.ensures.after c.balance.ensures.after;
-      kept = c.balance.ensures.kept ∙ c.put-below-low.ensures.kept;
+      after = put_left (vec_items c.args.nodes.now) c.args.link c.in-Some.j c.index-node.result.now c.in-Some.is c.index-node.ensures c.args.place c.args.new (vec_items c.put_below-low.new.nodes) c.put_below-low.result (vec_items c.balance.new.nodes) c.balance.result test c.put_below-low.ensures.after c.balance.ensures.after;
+      kept = c.balance.ensures.kept ∙ c.put_below-low.ensures.kept;
     }
 
 pub returns-else-place-before : goal.returns-else-place-before
@@ -74,10 +74,10 @@ returns-else-place-before t c =
     let ns = vec_items c.args.nodes.now in
     let n = c.index-node.result.now in
     let place = c.args.place in
-    let q = place - c.weight-of-before.result.size - 1 in
+    let q = place - c.weight_of-before.result.size - 1 in
     let test : (l : Tree) → Held ns n.left l → (size l < place) × (q ≡ place - size l - 1) =
-    λ l h. let size_is = ap (λ (w : Weight). w.size) (c.weight-of-before.ensures l h) in (omega (arith, size_is, c.if-place-before.false), ap (λ m. place - m - 1) size_is) in
+    λ l h. let size_is = ap (λ (w : Weight). w.size) (c.weight_of-before.ensures l h) in (omega (arith, size_is, c.if-place-before.false), ap (λ m. place - m - 1) size_is) in
     record {
-      after = put_right (vec_items c.args.nodes.now) c.args.link c.in-Some.j c.index-node.result.now c.in-Some.is c.index-node.ensures c.args.place c.args.new (vec_items c.put-below-high.new.nodes) c.put-below-high.result (vec_items c.balance-else-place-before.new.nodes) c.balance-else-place-before.result q test c.put-below-high.ensures.after c.balance-else-place-before.ensures.after;
-      kept = c.balance-else-place-before.ensures.kept ∙ c.put-below-high.ensures.kept;
+      after = put_right (vec_items c.args.nodes.now) c.args.link c.in-Some.j c.index-node.result.now c.in-Some.is c.index-node.ensures c.args.place c.args.new (vec_items c.put_below-high.new.nodes) c.put_below-high.result (vec_items c.balance-else-place-before.new.nodes) c.balance-else-place-before.result q test c.put_below-high.ensures.after c.balance-else-place-before.ensures.after;
+      kept = c.balance-else-place-before.ensures.kept ∙ c.put_below-high.ensures.kept;
     }

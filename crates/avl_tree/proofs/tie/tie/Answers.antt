@@ -20,8 +20,8 @@ join-weight-requires c =
     let l = c.requires.0 in
     let r = c.requires.2 in
     let s = c.requires.3 in
-    let a = c.weight-of.ensures l s.lower in
-    let b = c.weight-of-2.ensures r s.upper in
+    let a = c.weight_of.ensures l s.lower in
+    let b = c.weight_of-2.ensures r s.upper in
     let an = ap (λ (w : Weight). w.size) a in
     let bn = ap (λ (w : Weight). w.size) b in
     record { a = subst Sane (sym a) (sane l); b = subst Sane (sym b) (sane r); small = omega (arith, an, bn, s.small) }
@@ -58,9 +58,9 @@ returns c =
     let is : vec_items c.adopt-2.new.nodes ≡ tied ns left j right w = c.adopt-2.ensures.after ∙ ap (λ ms. adopted ms right (Some j)) (c.adopt.ensures.after ∙ ap (λ ms. adopted ms left (Some j)) written) in
     let weighs : (l : Tree) (e : Entry) (r : Tree) → Sides ns left right l j e r → w ≡ joined (weight l) e (weight r) =
     λ l e r s.
-    c.join-weight.ensures ∙ ap (λ x. joined x n.entry c.weight-of-2.result) (c.weight-of.ensures l s.lower)
-    ∙ ap (λ (x : Entry). joined (weight l) x c.weight-of-2.result) (ap (λ (m : Node). m.entry) (read_is ns j s.old n s.at c.index-node.ensures) ∙ s.entry-is)
-    ∙ ap (λ x. joined (weight l) e x) (c.weight-of-2.ensures r s.upper) in
+    c.join-weight.ensures ∙ ap (λ x. joined x n.entry c.weight_of-2.result) (c.weight_of.ensures l s.lower)
+    ∙ ap (λ (x : Entry). joined (weight l) x c.weight_of-2.result) (ap (λ (m : Node). m.entry) (read_is ns j s.old n s.at c.index-node.ensures) ∙ s.entry-is)
+    ∙ ap (λ x. joined (weight l) e x) (c.weight_of-2.ensures r s.upper) in
     record {
       after =
           record {

@@ -9,41 +9,41 @@ use Rattle.avl_tree.proofs.Sizes.{sane}
 use Rattle.avl_tree.proofs.Turns.{makes_by}
 use Rattle.avl_tree.proofs.turn.balance.Goals as goal
 
-pub overflow-add-upper : goal.overflow-add-upper
-overflow-add-upper c =
+pub overflow_add-upper : goal.overflow_add-upper
+overflow_add-upper c =
     let s = c.requires.3 in
-    omega (arith, ap (λ (w : Weight). w.height) (c.weight-of-upper.ensures c.requires.2 s.upper), (sane c.requires.2).tall, s.small)
+    omega (arith, ap (λ (w : Weight). w.height) (c.weight_of-upper.ensures c.requires.2 s.upper), (sane c.requires.2).tall, s.small)
 
-pub overflow-add-lower : goal.overflow-add-lower
-overflow-add-lower c =
+pub overflow_add-lower : goal.overflow_add-lower
+overflow_add-lower c =
     let s = c.requires.3 in
-    omega (arith, ap (λ (w : Weight). w.height) (c.weight-of-lower.ensures c.requires.0 s.lower), (sane c.requires.0).tall, s.small)
+    omega (arith, ap (λ (w : Weight). w.height) (c.weight_of-lower.ensures c.requires.0 s.lower), (sane c.requires.0).tall, s.small)
 
 pub returns-then-upper-lower : goal.returns-then-upper-lower
 returns-then-upper-lower c =
     let ns = vec_items c.args.nodes.now in
     record {
-      after = makes_by raise_left balanced ns (vec_items c.raise-left.new.nodes) c.args.left c.args.j c.args.right c.raise-left.result
+      after = makes_by raise_left balanced ns (vec_items c.raise_left.new.nodes) c.args.left c.args.j c.args.right c.raise_left.result
           (λ l e r s.
-          let wl = ap (λ (w : Weight). w.height) (c.weight-of-lower.ensures l s.lower) in
-          let wr = ap (λ (w : Weight). w.height) (c.weight-of-upper.ensures r s.upper) in
+          let wl = ap (λ (w : Weight). w.height) (c.weight_of-lower.ensures l s.lower) in
+          let wr = ap (λ (w : Weight). w.height) (c.weight_of-upper.ensures r s.upper) in
           sym (cond-true (ltb (height r + 1) (height l)) (raise_left l c.args.j e r) _ (lt-ltb _ _ (omega (arith, wl, wr, c.if-upper-lower.true)))))
-          c.raise-left.ensures.after;
-      kept = c.raise-left.ensures.kept;
+          c.raise_left.ensures.after;
+      kept = c.raise_left.ensures.kept;
     }
 
 pub returns-then-lower-upper : goal.returns-then-lower-upper
 returns-then-lower-upper c =
     let ns = vec_items c.args.nodes.now in
     record {
-      after = makes_by raise_right balanced ns (vec_items c.raise-right.new.nodes) c.args.left c.args.j c.args.right c.raise-right.result
+      after = makes_by raise_right balanced ns (vec_items c.raise_right.new.nodes) c.args.left c.args.j c.args.right c.raise_right.result
           (λ l e r s.
-          let wl = ap (λ (w : Weight). w.height) (c.weight-of-lower.ensures l s.lower) in
-          let wr = ap (λ (w : Weight). w.height) (c.weight-of-upper.ensures r s.upper) in
+          let wl = ap (λ (w : Weight). w.height) (c.weight_of-lower.ensures l s.lower) in
+          let wr = ap (λ (w : Weight). w.height) (c.weight_of-upper.ensures r s.upper) in
           sym (cond-false (ltb (height r + 1) (height l)) (raise_left l c.args.j e r) _ (le-ltb _ _ (omega (arith, wl, wr, c.if-upper-lower.false)))
           ∙ cond-true (ltb (height l + 1) (height r)) (raise_right l c.args.j e r) _ (lt-ltb _ _ (omega (arith, wl, wr, c.if-lower-upper.true)))))
-          c.raise-right.ensures.after;
-      kept = c.raise-right.ensures.kept;
+          c.raise_right.ensures.after;
+      kept = c.raise_right.ensures.kept;
     }
 
 pub returns-else-lower-upper : goal.returns-else-lower-upper
@@ -52,8 +52,8 @@ returns-else-lower-upper c =
     record {
       after = makes_by node balanced ns (vec_items c.tie.new.nodes) c.args.left c.args.j c.args.right c.tie.result
           (λ l e r s.
-          let wl = ap (λ (w : Weight). w.height) (c.weight-of-lower.ensures l s.lower) in
-          let wr = ap (λ (w : Weight). w.height) (c.weight-of-upper.ensures r s.upper) in
+          let wl = ap (λ (w : Weight). w.height) (c.weight_of-lower.ensures l s.lower) in
+          let wr = ap (λ (w : Weight). w.height) (c.weight_of-upper.ensures r s.upper) in
           sym (cond-false (ltb (height r + 1) (height l)) (raise_left l c.args.j e r) _ (le-ltb _ _ (omega (arith, wl, wr, c.if-upper-lower.false)))
           ∙ cond-false (ltb (height l + 1) (height r)) (raise_right l c.args.j e r) _ (le-ltb _ _ (omega (arith, wl, wr, c.if-lower-upper.false)))))
           c.tie.ensures.after;

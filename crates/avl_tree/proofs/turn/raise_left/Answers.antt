@@ -12,23 +12,23 @@ index-node-requires c =
     let v = c.args.nodes.now in
     omega (arith, link_within (vec_items v) c.args.left c.requires.0 c.requires.3.lower c.in-Some.i c.in-Some.is, v.ok.0)
 
-pub weight-of-outer-requires : goal.weight-of-outer-requires
-weight-of-outer-requires c =
+pub weight_of-outer-requires : goal.weight_of-outer-requires
+weight_of-outer-requires c =
     let p = ready_inside_left (vec_items c.args.nodes.now) c.args.left c.args.j c.args.right c.in-Some.i c.index-node.result.now c.in-Some.is c.index-node.ensures c.requires in
     (p.0, p.3.lower)
 
-pub weight-of-inner-requires : goal.weight-of-inner-requires
-weight-of-inner-requires c =
+pub weight_of-inner-requires : goal.weight_of-inner-requires
+weight_of-inner-requires c =
     let p = ready_inside_left (vec_items c.args.nodes.now) c.args.left c.args.j c.args.right c.in-Some.i c.index-node.result.now c.in-Some.is c.index-node.ensures c.requires in
     (p.2, p.3.upper)
 
-pub turn-left-middle-requires : goal.turn-left-middle-requires
-turn-left-middle-requires c =
+pub turn_left-middle-requires : goal.turn_left-middle-requires
+turn_left-middle-requires c =
     ready_inside_left (vec_items c.args.nodes.now) c.args.left c.args.j c.args.right c.in-Some.i c.index-node.result.now c.in-Some.is c.index-node.ensures c.requires
 
-pub turn-right-requires : goal.turn-right-requires
-turn-right-requires c =
-    ready_anew_left (vec_items c.args.nodes.now) c.args.left c.args.j c.args.right c.in-Some.i c.index-node.result.now c.in-Some.is c.index-node.ensures (vec_items c.turn-left-middle.new.nodes) c.turn-left-middle.result turn_left turn_left_keeps c.turn-left-middle.ensures.after c.requires
+pub turn_right-requires : goal.turn_right-requires
+turn_right-requires c =
+    ready_anew_left (vec_items c.args.nodes.now) c.args.left c.args.j c.args.right c.in-Some.i c.index-node.result.now c.in-Some.is c.index-node.ensures (vec_items c.turn_left-middle.new.nodes) c.turn_left-middle.result turn_left turn_left_keeps c.turn_left-middle.ensures.after c.requires
 
 pub returns-then-outer-inner : goal.returns-then-outer-inner
 returns-then-outer-inner c =
@@ -36,12 +36,12 @@ returns-then-outer-inner c =
     let n = c.index-node.result.now in
     let test : (a b : Tree) → Held ns n.left a → Held ns n.right b → ltb (height a) (height b) ≡ true =
     λ a b ha hb.
-    let wa = ap (λ (w : Weight). w.height) (c.weight-of-outer.ensures a ha) in
-    let wb = ap (λ (w : Weight). w.height) (c.weight-of-inner.ensures b hb) in
+    let wa = ap (λ (w : Weight). w.height) (c.weight_of-outer.ensures a ha) in
+    let wb = ap (λ (w : Weight). w.height) (c.weight_of-inner.ensures b hb) in
     lt-ltb _ _ (omega (arith, wa, wb, c.if-outer-inner.true)) in
     record {
-      after = raised_left ns c.args.left c.args.j c.args.right c.in-Some.i n c.in-Some.is c.index-node.ensures (vec_items c.turn-left-middle.new.nodes) (vec_items c.turn-right.new.nodes) c.turn-left-middle.result c.turn-right.result test c.turn-left-middle.ensures.after c.turn-right.ensures.after;
-      kept = c.turn-right.ensures.kept ∙ c.turn-left-middle.ensures.kept;
+      after = raised_left ns c.args.left c.args.j c.args.right c.in-Some.i n c.in-Some.is c.index-node.ensures (vec_items c.turn_left-middle.new.nodes) (vec_items c.turn_right.new.nodes) c.turn_left-middle.result c.turn_right.result test c.turn_left-middle.ensures.after c.turn_right.ensures.after;
+      kept = c.turn_right.ensures.kept ∙ c.turn_left-middle.ensures.kept;
     }
 
 pub returns-else-outer-inner : goal.returns-else-outer-inner
@@ -50,10 +50,10 @@ returns-else-outer-inner c =
     let n = c.index-node.result.now in
     let test : (a b : Tree) → Held ns n.left a → Held ns n.right b → ltb (height a) (height b) ≡ false =
     λ a b ha hb.
-    let wa = ap (λ (w : Weight). w.height) (c.weight-of-outer.ensures a ha) in
-    let wb = ap (λ (w : Weight). w.height) (c.weight-of-inner.ensures b hb) in
+    let wa = ap (λ (w : Weight). w.height) (c.weight_of-outer.ensures a ha) in
+    let wb = ap (λ (w : Weight). w.height) (c.weight_of-inner.ensures b hb) in
     le-ltb _ _ (omega (arith, wa, wb, c.if-outer-inner.false)) in
     record {
-      after = unraised_left ns c.args.left c.args.j c.args.right c.in-Some.i n c.in-Some.is c.index-node.ensures (vec_items c.turn-right-else-outer-inner.new.nodes) c.turn-right-else-outer-inner.result test (subst (λ x. Makes turn_right ns (vec_items c.turn-right-else-outer-inner.new.nodes) x c.args.j c.args.right c.turn-right-else-outer-inner.result) (sym c.in-Some.is) c.turn-right-else-outer-inner.ensures.after);
-      kept = c.turn-right-else-outer-inner.ensures.kept;
+      after = unraised_left ns c.args.left c.args.j c.args.right c.in-Some.i n c.in-Some.is c.index-node.ensures (vec_items c.turn_right-else-outer-inner.new.nodes) c.turn_right-else-outer-inner.result test (subst (λ x. Makes turn_right ns (vec_items c.turn_right-else-outer-inner.new.nodes) x c.args.j c.args.right c.turn_right-else-outer-inner.result) (sym c.in-Some.is) c.turn_right-else-outer-inner.ensures.after);
+      kept = c.turn_right-else-outer-inner.ensures.kept;
     }

@@ -1,4 +1,4 @@
-use Rattle.std.proofs.Common.{◌≡◌, sym, ◌∙◌}
+use Rattle.std.proofs.Common.{sym, ◌∙◌}
 use Rattle.events.specs.Same.{inserts_same, deletes_same}
 use Rattle.events.proofs.alike.same_deed.Goals as goal
 

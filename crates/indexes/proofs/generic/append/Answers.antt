@@ -17,7 +17,7 @@ returns-then-put g c =
     let put = c.if-put.ensures.after ∙ ap (λ k. insert es k e) end in
     let parts = put_parts es free n e.character can in
     record {
-      answer = c.place-of.ensures.answer ∙ ap (λ ys. place_of ys e.character) put ∙ place_of_put es n e parts.0 parts.1 ∙ sym (cond-true (can_put es free n e.character) (Some n) None can);
+      answer = c.place_of.ensures.answer ∙ ap (λ ys. place_of ys e.character) put ∙ place_of_put es n e parts.0 parts.1 ∙ sym (cond-true (can_put es free n e.character) (Some n) None can);
       after = put ∙ sym (cond-true (can_put es free n e.character) (insert es n e) es can);
       kept = c.put.ensures.kept;
     }

@@ -9,8 +9,8 @@ returns-in-Some g c =
     let count = c.count-count.ensures.answer in
     record { answer = ((omega arith, omega arith), inl (subst (λ n. FirstUnknown n c.args.first.now (Some c.in-Some.event)) count c.in-Some.ensures.answer)) }
 
-pub returns-in-Some-unknown-head : goal.returns-in-Some-unknown-head
-returns-in-Some-unknown-head g c =
+pub returns-in-Some-unknown_head : goal.returns-in-Some-unknown_head
+returns-in-Some-unknown_head g c =
     let cap = c.capacity-needed.ensures.answer in
     let count = c.count-count.ensures.answer in
     record {
@@ -18,7 +18,7 @@ returns-in-Some-unknown-head g c =
         (omega arith, omega arith),
         inr (
           subst (λ n. Known n c.args.first.now) count c.in-default.ensures.answer,
-          subst (λ n. FirstUnknown n c.args.second.now (Some c.in-Some-unknown-head.event)) count c.in-Some-unknown-head.ensures.answer,
+          subst (λ n. FirstUnknown n c.args.second.now (Some c.in-Some-unknown_head.event)) count c.in-Some-unknown_head.ensures.answer,
         ),
       );
     }
@@ -31,6 +31,6 @@ returns g c =
       answer = (
         (omega arith, omega arith),
         subst (λ n. Known n c.args.first.now) count c.in-default.ensures.answer,
-        subst (λ n. Known n c.args.second.now) count c.in-default-unknown-head.ensures.answer,
+        subst (λ n. Known n c.args.second.now) count c.in-default-unknown_head.ensures.answer,
       );
     }

@@ -3,10 +3,10 @@ use Rattle.std.proofs.Common.{◌≡◌, sym, refl, ap, ◌∙◌, subst}
 use Rattle.std.proofs.lemmas.Result.{err_from_is_err_and}
 use Rattle.versions.proofs.differ.difference.Goals as goal
 
-pub returns-in-err-admit : goal.returns-in-err-admit
-returns-in-err-admit g c =
+pub returns-in_err-admit : goal.returns-in_err-admit
+returns-in_err-admit g c =
     let p = err_from_is_err_and c.from-residual.result c.from-residual.ensures.1 in
-    record { answer = rw (p.1, p.2) (refl, c.in-err-admit.ensures.answer) }
+    record { answer = rw (p.1, p.2) (refl, c.in_err-admit.ensures.answer) }
 
 pub differing-requires : goal.differing-requires
 differing-requires g c =

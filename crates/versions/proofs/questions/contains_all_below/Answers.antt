@@ -7,10 +7,10 @@ use Rattle.versions.proofs.Rows.{all_of, of_all}
 use Rattle.versions.proofs.Asked.{only_none}
 use Rattle.versions.proofs.questions.contains_all_below.Goals as goal
 
-pub returns-in-err-admit : goal.returns-in-err-admit
-returns-in-err-admit g c =
+pub returns-in_err-admit : goal.returns-in_err-admit
+returns-in_err-admit g c =
     let p = err_from_is_err_and c.from-residual.result c.from-residual.ensures.1 in
-    record { answer = rw (p.1, p.2) c.in-err-admit.ensures.answer }
+    record { answer = rw (p.1, p.2) c.in_err-admit.ensures.answer }
 
 pub returns-then-n-eq0 : goal.returns-then-n-eq0
 returns-then-n-eq0 g c = record { answer = ((λ e x low. absurd (omega (arith, c.if-n-eq0.true))), (λ e. refl)) }

@@ -9,10 +9,10 @@ use Rattle.versions.proofs.Sets.{nth_below}
 use Rattle.versions.proofs.Asked.{known_one, head_rest, one_found, none_found}
 use Rattle.versions.proofs.questions.one_behind_another.Goals as goal
 
-pub returns-in-err-admit : goal.returns-in-err-admit
-returns-in-err-admit g c =
+pub returns-in_err-admit : goal.returns-in_err-admit
+returns-in_err-admit g c =
     let p = err_from_is_err_and c.from-residual.result c.from-residual.ensures.1 in
-    record { answer = rw (p.1, p.2) c.in-err-admit.ensures.answer }
+    record { answer = rw (p.1, p.2) c.in_err-admit.ensures.answer }
 
 pub differing-alone-requires : goal.differing-alone-requires
 differing-alone-requires g c =

@@ -3,8 +3,8 @@ use Rattle.std.proofs.Common.{◌≤◌, arith}
 use Rattle.versions.proofs.Starts.{bare_listed, bare_queued, started}
 use Rattle.versions.proofs.run.start.Goals as goal
 
-pub note-heads-marked-requires : goal.note-heads-marked-requires
-note-heads-marked-requires c =
+pub note_heads-marked-requires : goal.note_heads-marked-requires
+note_heads-marked-requires c =
     let w = c.args.work.now in
     let k = c.requires.known in
     record {
@@ -13,10 +13,10 @@ note-heads-marked-requires c =
       marked = λ z. omega arith;
     }
 
-pub note-heads-requires : goal.note-heads-requires
-note-heads-requires c =
+pub note_heads-requires : goal.note_heads-requires
+note_heads-requires c =
     let k = c.requires.known in
-    let a = c.note-heads-marked.ensures.after in
+    let a = c.note_heads-marked.ensures.after in
     record {
       listed = a.listed;
       queued = (k.0, omega (arith, k.1, a.room), k.3, a.queued k.0 k.2 (bare_queued c.args.work.now c.args.room k.0));
@@ -26,5 +26,5 @@ note-heads-requires c =
 pub returns : goal.returns
 returns c =
     record {
-      after = started c.args.room c.args.first.now c.args.second.now c.args.work.now c.note-heads-marked.new.work c.note-heads.new.work c.note-heads-marked.result c.note-heads.result c.note-heads-marked.ensures.after c.note-heads.ensures.after;
+      after = started c.args.room c.args.first.now c.args.second.now c.args.work.now c.note_heads-marked.new.work c.note_heads.new.work c.note_heads-marked.result c.note_heads.result c.note_heads-marked.ensures.after c.note_heads.ensures.after;
     }

@@ -22,8 +22,8 @@ returns-in-default c =
     let pos = some-queued w s q.0 l q.1 c.requires.queued.1 in
     clash (queued w s.queued) (and_from _ _ (lt-ltb 0 s.queued pos) (le-leb s.queued (length w) (omega (arith, l.within, l.size, seen_le w s l)))) (sym c.in-default.ensures.answer)
 
-pub mark-of-mark-requires : goal.mark-of-mark-requires
-mark-of-mark-requires c =
+pub mark_of-mark-requires : goal.mark_of-mark-requires
+mark_of-mark-requires c =
     let w = c.args.work.now in
     let s = c.args.s in
     let l = c.requires.listed in
@@ -47,8 +47,8 @@ returns c =
     let p = s.pending - c.alone.result in
     let level = c.pop.auto.cells in
     let got = c.in-Some.ensures.after in
-    let m : c.mark-of-mark.result ≡ marks w s e = c.mark-of-mark.ensures.answer ∙ same w v s e s.pending l level pos got e in
+    let m : c.mark_of-mark.result ≡ marks w s e = c.mark_of-mark.ensures.answer ∙ same w v s e s.pending l level pos got e in
     let sided : c.alone.result ≡ one_sided (marks w s e) = c.alone.ensures.answer ∙ ap one_sided m in
     let low = (was w v s e p l level pos got q.0 q.1).0 in
     let le = share w s l q.0 q.1 e low in
-    record { after = taken w v s e p l level pos got c.mark-of-mark.result m (omega arith) q.0 q.1 }
+    record { after = taken w v s e p l level pos got c.mark_of-mark.result m (omega arith) q.0 q.1 }

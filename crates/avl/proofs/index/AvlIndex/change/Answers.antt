@@ -19,24 +19,24 @@ use Rattle.avl_tree.proofs.Sizes.{size_entries}
 use Rattle.avl_tree.proofs.Ties.{link_within, entries_adopted, length_adopted}
 use Rattle.avl.proofs.index.AvlIndex.change.Goals as goal
 
-pub revise-below-requires : goal.revise-below-requires
-revise-below-requires c = let s = c.args.self.now in (avl_tree_of s, stood_of s)
+pub revise_below-requires : goal.revise_below-requires
+revise_below-requires c = let s = c.args.self.now in (avl_tree_of s, stood_of s)
 
 pub adopt-requires : goal.adopt-requires
 adopt-requires c i is =
     let s = c.args.self.now in
     let t = avl_tree_of s in
-    let v = c.revise-below.new.nodes in
-    omega (arith, link_within (vec_items v) s.root (revised (applied c.args.change) t c.args.place) (c.revise-below.ensures.after.after t (stood_of s)) i is, v.ok.0)
+    let v = c.revise_below.new.nodes in
+    omega (arith, link_within (vec_items v) s.root (revised (applied c.args.change) t c.args.place) (c.revise_below.ensures.after.after t (stood_of s)) i is, v.ok.0)
 
-pub invariant-of-self : goal.invariant-of-self
-invariant-of-self c =
+pub invariant_of-self : goal.invariant_of-self
+invariant_of-self c =
     let s = c.args.self.now in
     let ns = vec_items s.nodes in
     let t = avl_tree_of s in
     let f = applied c.args.change in
-    let ms = vec_items c.revise-below.new.nodes in
-    let rev = c.revise-below.ensures.after in
+    let ms = vec_items c.revise_below.new.nodes in
+    let rev = c.revise_below.ensures.after in
     let long : length ms ≡ length ns = sym (length-map ms (λ (n : Node). n.entry)) ∙ sym (length-map (held_entries ms) (λ (e : Entry). e.character)) ∙ ap length rev.same ∙ length-map (held_entries ns) (λ (e : Entry). e.character) ∙ length-map ns (λ (n : Node). n.entry) in
     let is = c.adopt.ensures.after in
     let ks = vec_items c.adopt.new.nodes in
@@ -46,7 +46,7 @@ invariant-of-self c =
     let g = facts ks s.root (vec_items s.directory) (revised f t c.args.place) w named in
     let meaning = g.meaning ∙ (revising f t c.args.place).written in
     let size_is = ap length meaning ∙ length_at_place f (avl_entries s) c.args.place in
-    (g.rooted, (g.stored, (g.apart, (g.covered, (g.sized, (g.balanced, (named, (g.distinct, (s.wide, (omega (arith, size_is, s.within), (omega (arith, c.adopt.ensures.kept, c.revise-below.ensures.kept, s.reserved), (s.spared, (s.small, tt)))))))))))))
+    (g.rooted, (g.stored, (g.apart, (g.covered, (g.sized, (g.balanced, (named, (g.distinct, (s.wide, (omega (arith, size_is, s.within), (omega (arith, c.adopt.ensures.kept, c.revise_below.ensures.kept, s.reserved), (s.spared, (s.small, tt)))))))))))))
 
 pub returns : goal.returns
 returns c =
@@ -54,8 +54,8 @@ returns c =
     let ns = vec_items s.nodes in
     let t = avl_tree_of s in
     let f = applied c.args.change in
-    let ms = vec_items c.revise-below.new.nodes in
-    let rev = c.revise-below.ensures.after in
+    let ms = vec_items c.revise_below.new.nodes in
+    let rev = c.revise_below.ensures.after in
     let long : length ms ≡ length ns = sym (length-map ms (λ (n : Node). n.entry)) ∙ sym (length-map (held_entries ms) (λ (e : Entry). e.character)) ∙ ap length rev.same ∙ length-map (held_entries ns) (λ (e : Entry). e.character) ∙ length-map ns (λ (n : Node). n.entry) in
     let is = c.adopt.ensures.after in
     let ks = vec_items c.adopt.new.nodes in

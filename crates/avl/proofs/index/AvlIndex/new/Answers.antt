@@ -6,8 +6,8 @@ use Rattle.avl_tree.proofs.Grown.{Whole}
 use Rattle.avl.proofs.Facts.{Facts, facts, whole_none, named_none}
 use Rattle.avl.proofs.index.AvlIndex.new.Goals as goal
 
-pub invariant-of-result : goal.invariant-of-result
-invariant-of-result c =
+pub invariant_of-result : goal.invariant_of-result
+invariant_of-result c =
     let v = c.clear.new.self in
     let dir = vec_items c.args.directory in
     let e = c.clear.ensures.items in

@@ -21,9 +21,9 @@ loop-i-preserved c =
     let i = c.loop-i.i in
     let e = c.index-entry.result.now in
     let within : i < length es = omega (arith, v.ok.0, c.len-i-end.ensures, c.loop-i-test.true) in
-    let is = c.push-reserved.ensures.items in
+    let is = c.push_reserved.ensures.items in
     let wide : e.character < length dir = omega (arith, c.loop-i.invariant.2, c.loop-i.directory.ok.0) in
-    (ap held_entries is ∙ laid_more es ns i e _ within c.index-entry.ensures refl c.loop-i.invariant.0, subst (λ (ms : List Node). Named ms (set dir e.character i)) (sym is) (names_more es ns dir i e _ c.requires.distinct within c.index-entry.ensures refl c.loop-i.invariant.0 wide c.loop-i.invariant.1), c.loop-i.invariant.2, c.push-reserved.ensures.capacity ∙ c.loop-i.invariant.3, c.push-reserved.ensures.len ∙ ap (λ k. k + 1) c.loop-i.invariant.4)
+    (ap held_entries is ∙ laid_more es ns i e _ within c.index-entry.ensures refl c.loop-i.invariant.0, subst (λ (ms : List Node). Named ms (set dir e.character i)) (sym is) (names_more es ns dir i e _ c.requires.distinct within c.index-entry.ensures refl c.loop-i.invariant.0 wide c.loop-i.invariant.1), c.loop-i.invariant.2, c.push_reserved.ensures.capacity ∙ c.loop-i.invariant.3, c.push_reserved.ensures.len ∙ ap (λ k. k + 1) c.loop-i.invariant.4)
 
 pub returns : goal.returns
 returns c =

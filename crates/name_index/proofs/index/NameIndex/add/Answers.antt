@@ -11,16 +11,16 @@ returns-then-number-self c =
     let v = s.nodes in
     record { after = (refl, inl (omega (arith, v.ok.0, length-map (vec_items v) name_of))); kept = refl }
 
-pub invariant-of-self : goal.invariant-of-self
-invariant-of-self c =
+pub invariant_of-self : goal.invariant_of-self
+invariant_of-self c =
     let ns = vec_items c.args.self.now.nodes in
-    let made = c.push-reserved.ensures in
+    let made = c.push_reserved.ensures in
     let e = made.items ∙ ap (λ (n : Node). ns ++ n ∷ []) c.new.ensures.answer in
     let g = grown_first ns _ c.args.name c.in-Empty.ensures.answer e in
     (omega (arith, made.len), (omega (arith, made.capacity), (omega arith, (g.0, tt))))
 
-pub invariant-of-self-in-Free : goal.invariant-of-self-in-Free
-invariant-of-self-in-Free c =
+pub invariant_of-self-in-Free : goal.invariant_of-self-in-Free
+invariant_of-self-in-Free c =
     let ns = vec_items c.args.self.now.nodes in
     let x = c.args.name in
     let k = c.in-Free.node in

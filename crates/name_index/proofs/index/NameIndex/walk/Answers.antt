@@ -8,18 +8,18 @@ use Rattle.name_index.proofs.Links.{name_read}
 use Rattle.name_index.proofs.Walking.{ends_free, goes_on, goes_up}
 use Rattle.name_index.proofs.index.NameIndex.walk.Goals as goal
 
-pub returns-then-is-empty : goal.returns-then-is-empty
-returns-then-is-empty c =
+pub returns-then-is_empty : goal.returns-then-is_empty
+returns-then-is_empty c =
     let v = c.args.self.now.nodes in
-    record { answer = nil_from_length (vec_items v) (omega (arith, eqb-true (vec_len v) 0 (sym c.if-is-empty.ensures), v.ok.0)) }
+    record { answer = nil_from_length (vec_items v) (omega (arith, eqb-true (vec_len v) 0 (sym c.if-is_empty.ensures), v.ok.0)) }
 
-pub returns-then-same-name : goal.returns-then-same-name
-returns-then-same-name c =
+pub returns-then-same_name : goal.returns-then-same_name
+returns-then-same_name c =
     let v = c.args.self.now.nodes in
     let k = c.loop-name.node in
     let n = c.index.result.now in
     let at = slice_get_read (vec_items v) (vec_len v) k n v.ok.0 (omega (arith, v.ok.0, c.loop-name.invariant.0)) c.index.ensures in
-    record { answer = name_read (vec_items v) k n at ∙ ap (λ (x : Name). Some x) (c.same-name.ensures.answer.0 c.if-same-name.true) }
+    record { answer = name_read (vec_items v) k n at ∙ ap (λ (x : Name). Some x) (c.same_name.ensures.answer.0 c.if-same_name.true) }
 
 pub returns-in-None : goal.returns-in-None
 returns-in-None c =
@@ -27,7 +27,7 @@ returns-in-None c =
     let k = c.loop-name.node in
     let n = c.index.result.now in
     let at = slice_get_read (vec_items v) (vec_len v) k n v.ok.0 (omega (arith, v.ok.0, c.loop-name.invariant.0)) c.index.ensures in
-    let other = λ (e : n.name ≡ c.args.name). both_ways c.same-name.result c.if-same-name.false (c.same-name.ensures.answer.1 e) in
+    let other = λ (e : n.name ≡ c.args.name). both_ways c.same_name.result c.if-same_name.false (c.same_name.ensures.answer.1 e) in
     let link = ap (λ (b : Bool). link_of b (Some n)) (sym c.turn.ensures.answer) ∙ sym c.in-None.ensures.answer in
     record { answer = ends_free (vec_items v) c.args.self.now.sound c.args.name k c.loop-name.depth n at other c.loop-name.invariant link }
 
@@ -45,6 +45,6 @@ loop-name-preserved c =
     let k = c.loop-name.node in
     let n = c.index.result.now in
     let at = slice_get_read (vec_items v) (vec_len v) k n v.ok.0 (omega (arith, v.ok.0, c.loop-name.invariant.0)) c.index.ensures in
-    let other = λ (e : n.name ≡ c.args.name). both_ways c.same-name.result c.if-same-name.false (c.same-name.ensures.answer.1 e) in
+    let other = λ (e : n.name ≡ c.args.name). both_ways c.same_name.result c.if-same_name.false (c.same_name.ensures.answer.1 e) in
     let link = ap (λ (b : Bool). link_of b (Some n)) (sym c.turn.ensures.answer) ∙ sym c.in-Some.ensures.answer in
     goes_on (vec_items v) c.args.self.now.sound c.args.name k c.loop-name.depth n at other c.loop-name.invariant c.in-Some.next link

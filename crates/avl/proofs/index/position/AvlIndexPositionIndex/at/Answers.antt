@@ -11,8 +11,8 @@ use Rattle.avl.proofs.Facts.{held_of, count_of, small_of}
 use Rattle.avl_tree.proofs.Sizes.{size_entries, prepared_entries, present_entries}
 use Rattle.avl.proofs.index.position.AvlIndexPositionIndex.at.Goals as goal
 
-pub entry-below-requires : goal.entry-below-requires
-entry-below-requires c = let s = c.args.self.now in (avl_tree_of s, held_of s)
+pub entry_below-requires : goal.entry_below-requires
+entry_below-requires c = let s = c.args.self.now in (avl_tree_of s, held_of s)
 
 pub returns : goal.returns
-returns c = let s = c.args.self.now in record { answer = c.entry-below.ensures (avl_tree_of s) (held_of s) }
+returns c = let s = c.args.self.now in record { answer = c.entry_below.ensures (avl_tree_of s) (held_of s) }

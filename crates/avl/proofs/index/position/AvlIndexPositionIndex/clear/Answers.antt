@@ -6,8 +6,8 @@ use Rattle.avl_tree.proofs.Grown.{Whole}
 use Rattle.avl.proofs.Facts.{Facts, facts, whole_none, named_none}
 use Rattle.avl.proofs.index.position.AvlIndexPositionIndex.clear.Goals as goal
 
-pub invariant-of-self : goal.invariant-of-self
-invariant-of-self c =
+pub invariant_of-self : goal.invariant_of-self
+invariant_of-self c =
     let s = c.args.self.now in
     let v = c.clear.new.self in
     let dir = vec_items s.directory in

@@ -11,10 +11,10 @@ use Rattle.avl.proofs.Facts.{held_of, count_of, small_of}
 use Rattle.avl_tree.proofs.Sizes.{size_entries, prepared_entries, present_entries}
 use Rattle.avl.proofs.index.position.AvlIndexPositionIndex.nth_prepared.Goals as goal
 
-pub nth-below-requires : goal.nth-below-requires
-nth-below-requires c = let s = c.args.self.now in (avl_tree_of s, held_of s, omega (arith, small_of s))
+pub nth_below-requires : goal.nth_below-requires
+nth_below-requires c = let s = c.args.self.now in (avl_tree_of s, held_of s, omega (arith, small_of s))
 
 pub returns : goal.returns
 returns c =
     let s = c.args.self.now in
-    record { answer = c.nth-below.ensures (avl_tree_of s) (held_of s) ∙ shifted_zero (find is_prepared (avl_entries s) c.args.n) }
+    record { answer = c.nth_below.ensures (avl_tree_of s) (held_of s) ∙ shifted_zero (find is_prepared (avl_entries s) c.args.n) }

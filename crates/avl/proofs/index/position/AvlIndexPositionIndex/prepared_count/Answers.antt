@@ -11,10 +11,10 @@ use Rattle.avl.proofs.Facts.{held_of, count_of, small_of}
 use Rattle.avl_tree.proofs.Sizes.{size_entries, prepared_entries, present_entries}
 use Rattle.avl.proofs.index.position.AvlIndexPositionIndex.prepared_count.Goals as goal
 
-pub weight-of-requires : goal.weight-of-requires
-weight-of-requires c = let s = c.args.self.now in (avl_tree_of s, held_of s)
+pub weight_of-requires : goal.weight_of-requires
+weight_of-requires c = let s = c.args.self.now in (avl_tree_of s, held_of s)
 
 pub returns : goal.returns
 returns c =
     let s = c.args.self.now in
-    record { answer = ap (λ (w : Weight). w.prepared) (c.weight-of.ensures (avl_tree_of s) (held_of s)) ∙ prepared_entries (avl_tree_of s) }
+    record { answer = ap (λ (w : Weight). w.prepared) (c.weight_of.ensures (avl_tree_of s) (held_of s)) ∙ prepared_entries (avl_tree_of s) }

@@ -16,10 +16,10 @@ returns-then-place-len c =
     let s = c.args.self.now in
     record { answer = sym (cond-false (leb c.args.place (length (avl_entries s))) _ None (lt-leb c.args.place (length (avl_entries s)) (omega (arith, count_of s, c.len.ensures, c.if-place-len.true)))) }
 
-pub present-below-requires : goal.present-below-requires
-present-below-requires c = let s = c.args.self.now in (avl_tree_of s, held_of s, small_of s)
+pub present_below-requires : goal.present_below-requires
+present_below-requires c = let s = c.args.self.now in (avl_tree_of s, held_of s, small_of s)
 
 pub returns : goal.returns
 returns c =
     let s = c.args.self.now in
-    record { answer = ap Some (c.present-below.ensures (avl_tree_of s) (held_of s)) ∙ sym (cond-true (leb c.args.place (length (avl_entries s))) (Some (count is_present (take c.args.place (avl_entries s)))) None (le-leb c.args.place (length (avl_entries s)) (omega (arith, count_of s, c.len.ensures, c.if-place-len.false)))) }
+    record { answer = ap Some (c.present_below.ensures (avl_tree_of s) (held_of s)) ∙ sym (cond-true (leb c.args.place (length (avl_entries s))) (Some (count is_present (take c.args.place (avl_entries s)))) None (le-leb c.args.place (length (avl_entries s)) (omega (arith, count_of s, c.len.ensures, c.if-place-len.false)))) }

@@ -15,17 +15,17 @@ returns-then-len-self c =
     let s = c.args.self.now in
     record { answer = sym (put_full (avl_entries s) s.room c.args.place c.args.entry.character (omega (arith, count_of s, c.len-2.ensures, c.if-len-self.true))); after = refl; kept = refl }
 
-pub returns-then-is-some : goal.returns-then-is-some
-returns-then-is-some c =
+pub returns-then-is_some : goal.returns-then-is_some
+returns-then-is_some c =
     let s = c.args.self.now in
-    record { answer = sym (put_listed (avl_entries s) s.room c.args.place c.args.entry.character (ap is_some (sym c.place-of.ensures.answer) ∙ sym c.if-is-some.ensures)); after = refl; kept = refl }
+    record { answer = sym (put_listed (avl_entries s) s.room c.args.place c.args.entry.character (ap is_some (sym c.place_of.ensures.answer) ∙ sym c.if-is_some.ensures)); after = refl; kept = refl }
 
 pub insert-requires : goal.insert-requires
 insert-requires c =
     let s = c.args.self.now in
     record {
       within = omega (arith, count_of s, c.len.ensures, c.if-place-len.false);
-      new = ap is_some (sym c.place-of.ensures.answer) ∙ sym c.if-is-some.ensures;
+      new = ap is_some (sym c.place_of.ensures.answer) ∙ sym c.if-is_some.ensures;
       room = omega (arith, count_of s, c.len-2.ensures, c.if-len-self.false);
     }
 
@@ -33,7 +33,7 @@ pub returns : goal.returns
 returns c =
     let s = c.args.self.now in
     record {
-      answer = sym (put_made (avl_entries s) s.room c.args.place c.args.entry.character (omega (arith, count_of s, c.len.ensures, c.if-place-len.false)) (ap is_some (sym c.place-of.ensures.answer) ∙ sym c.if-is-some.ensures) (omega (arith, count_of s, c.len-2.ensures, c.if-len-self.false)));
+      answer = sym (put_made (avl_entries s) s.room c.args.place c.args.entry.character (omega (arith, count_of s, c.len.ensures, c.if-place-len.false)) (ap is_some (sym c.place_of.ensures.answer) ∙ sym c.if-is_some.ensures) (omega (arith, count_of s, c.len-2.ensures, c.if-len-self.false)));
       after = c.insert.ensures.after;
       kept = c.insert.ensures.kept;
     }

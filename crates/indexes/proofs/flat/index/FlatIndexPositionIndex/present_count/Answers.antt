@@ -4,16 +4,16 @@ use Rattle.indexes.specs.Entries.{is_present}
 use Rattle.indexes.specs.Questions.{count}
 use Rattle.indexes.proofs.Counts.{count_read}
 use Rattle.indexes.proofs.flat.index.FlatIndexPositionIndex.present_count.Goals as goal
-use Rattle.indexes.proofs.flat.index.FlatIndexPositionIndex.present_count.Goals.{then-is-present, else-is-present}
+use Rattle.indexes.proofs.flat.index.FlatIndexPositionIndex.present_count.Goals.{then-is_present, else-is_present}
 
 pub loop-i-preserved : goal.loop-i-preserved
 loop-i-preserved c =
     let v = c.args.self.now.cells in
     let within : c.loop-i.i < length (vec_items v) = omega (arith, v.ok.0) in
     let more = λ (b : Bool). count_read is_present (vec_items v) c.loop-i.i c.index.result.now b within c.index.ensures in
-    elim c.if-is-present.branch [
-      | then-is-present w ↦ let step = more true w.if-is-present.ensures in (omega (arith, step, w.present-is), omega (arith, w.present-is))
-      | else-is-present w ↦ let step = more false w.if-is-present.ensures in (omega (arith, step, w.present-is), omega (arith, w.present-is))
+    elim c.if-is_present.branch [
+      | then-is_present w ↦ let step = more true w.if-is_present.ensures in (omega (arith, step, w.present-is), omega (arith, w.present-is))
+      | else-is_present w ↦ let step = more false w.if-is_present.ensures in (omega (arith, step, w.present-is), omega (arith, w.present-is))
     ]
 
 pub returns : goal.returns

@@ -14,13 +14,13 @@ returns-then-place-len c =
       kept = refl;
     }
 
-pub invariant-of-self : goal.invariant-of-self
-invariant-of-self c =
+pub invariant_of-self : goal.invariant_of-self
+invariant_of-self c =
     let s = c.args.self.now in
     let xs = vec_items s.cells in
     let f = with_effect c.args.effect in
     let within : c.args.place < length xs = omega (arith, s.cells.ok.0) in
-    let is = ap (set xs c.args.place) c.with-effect-entry.ensures ∙ set_at_place f xs c.args.place c.index.result.now within c.index.ensures in
+    let is = ap (set xs c.args.place) c.with_effect-entry.ensures ∙ set_at_place f xs c.args.place c.index.result.now within c.index.ensures in
     let same = ap characters is ∙ characters_at_place f (λ _. refl) xs c.args.place in
     (subst Distinct (sym same) s.distinct, (s.long, (s.reserved, (s.small, tt))))
 
@@ -31,6 +31,6 @@ returns c =
     let within : c.args.place < length xs = omega (arith, s.cells.ok.0) in
     record {
       answer = sym (lt-ltb _ _ within);
-      after = ap (set xs c.args.place) c.with-effect-entry.ensures ∙ set_at_place (with_effect c.args.effect) xs c.args.place c.index.result.now within c.index.ensures;
+      after = ap (set xs c.args.place) c.with_effect-entry.ensures ∙ set_at_place (with_effect c.args.effect) xs c.args.place c.index.result.now within c.index.ensures;
       kept = refl;
     }

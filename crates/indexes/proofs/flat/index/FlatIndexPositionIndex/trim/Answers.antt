@@ -4,10 +4,10 @@ use Rattle.indexes.specs.Questions.{characters}
 use Rattle.indexes.proofs.Chains.{distinct_trimmed, length_trimmed}
 use Rattle.indexes.proofs.flat.index.FlatIndexPositionIndex.trim.Goals as goal
 
-pub invariant-of-self : goal.invariant-of-self
-invariant-of-self c =
+pub invariant_of-self : goal.invariant_of-self
+invariant_of-self c =
     let s = c.args.self.now in
     let xs = vec_items s.cells in
-    let is = c.trim-cells.ensures.after in
+    let is = c.trim_cells.ensures.after in
     let long = ap length is in
-    (subst (λ ys. Distinct (characters ys)) (sym is) (distinct_trimmed xs s.distinct), (omega (arith, long, length_trimmed xs, s.long, s.cells.ok.0, c.trim-cells.new.cells.ok.0), (omega (arith, c.trim-cells.ensures.kept, s.reserved), (s.small, tt))))
+    (subst (λ ys. Distinct (characters ys)) (sym is) (distinct_trimmed xs s.distinct), (omega (arith, long, length_trimmed xs, s.long, s.cells.ok.0, c.trim_cells.new.cells.ok.0), (omega (arith, c.trim_cells.ensures.kept, s.reserved), (s.small, tt))))
