@@ -1,4 +1,4 @@
-use Rattle.std.proofs.Common.{◌≡◌, Bool, List, [], ◌∷◌, ◌++◌, vec_items, sym, refl, ap, ◌∙◌, inl, inr, arith}
+use Rattle.std.proofs.Common.{Bool, [], ◌∷◌, ◌++◌, vec_items, refl, ap, ◌∙◌, inl, arith}
 use lib.ListN.{length-map}
 use Rattle.name_index.specs.declared.node.Node.{Node}
 use Rattle.name_index.specs.Walks.{name_of, hung}
@@ -17,7 +17,7 @@ invariant_of-self c =
     let made = c.push_reserved.ensures in
     let e = made.items ∙ ap (λ (n : Node). ns ++ n ∷ []) c.new.ensures.answer in
     let g = grown_first ns _ c.args.name c.in-Empty.ensures.answer e in
-    (omega (arith, made.len), (omega (arith, made.capacity), (omega arith, (g.0, tt))))
+    record { within = omega (arith, made.len); reserved = omega (arith, made.capacity); small = omega arith; sound = g.0 }
 
 pub invariant_of-self-in-Free : goal.invariant_of-self-in-Free
 invariant_of-self-in-Free c =
@@ -28,7 +28,7 @@ invariant_of-self-in-Free c =
     let made = c.hang.ensures in
     let e = made.after ∙ ap (λ (b : Bool). hung ns k b x) c.turn.ensures.answer in
     let g = grown_hung ns _ x k c.in-Free.depth c.args.self.now.sound free.0 free.1 e in
-    (omega (arith, made.len), (omega (arith, made.capacity), (omega arith, (g.0, tt))))
+    record { within = omega (arith, made.len); reserved = omega (arith, made.capacity); small = omega arith; sound = g.0 }
 
 pub returns-in-Free : goal.returns-in-Free
 returns-in-Free c =

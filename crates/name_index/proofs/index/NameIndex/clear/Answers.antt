@@ -4,4 +4,4 @@ use Rattle.name_index.proofs.Growth.{sound_none}
 use Rattle.name_index.proofs.index.NameIndex.clear.Goals as goal
 
 pub invariant_of-self : goal.invariant_of-self
-invariant_of-self c = (omega arith, (omega arith, (omega arith, (∣ subst Sound (sym c.clear.ensures.items) sound_none ∣₁, tt))))
+invariant_of-self c = record { within = omega arith; reserved = omega arith; small = omega arith; sound = ∣ subst Sound (sym c.clear.ensures.items) sound_none ∣₁ }

@@ -5,5 +5,5 @@ use Rattle.name_index.proofs.index.NameIndex.with_room.Goals as goal
 
 pub invariant_of-result : goal.invariant_of-result
 invariant_of-result c =
-    let made = c.in-ok-nodes.ensures in
-    (omega (arith, made.len), (omega (arith, made.capacity), (omega arith, (∣ subst Sound (sym made.items) sound_none ∣₁, tt))))
+    let made = c.in_ok-nodes.ensures in
+    record { within = omega (arith, made.len); reserved = omega (arith, made.capacity); small = omega arith; sound = ∣ subst Sound (sym made.items) sound_none ∣₁ }
