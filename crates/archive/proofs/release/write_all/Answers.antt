@@ -30,12 +30,12 @@ loop-name-init g c =
     )
 
 -- each name in the queue is that of an event
-pub returns-in-default-number_of : goal.returns-in-default-number_of
-returns-in-default-number_of g c =
+pub returns-in_default-number_of : goal.returns-in_default-number_of
+returns-in_default-number_of g c =
     let now = c.loop-name.invariant in
     let p = c.in-Some.ensures.after in
     let r = now.1.1.ready c.in-Some.name (popped_in (take c.loop-name.queued c.loop-name.names) _ c.in-Some.name p.elements) in
-    absurd (c.in-default-number_of.ensures.answer r.0 r.1)
+    absurd (c.in_default-number_of.ensures.answer r.0 r.1)
 
 pub offset_bounds-work-written : goal.offset_bounds-work-written
 offset_bounds-work-written g c =
@@ -119,7 +119,7 @@ returns g c =
     let now = c.loop-name.invariant in
     let cells = c.loop-name.work in
     let room4 : 4 * room ≤ length cells = omega (arith, c.loop-name.auto.work, c.requires.0) in
-    let z = empty_queue c.loop-name.names c.loop-name.queued now.2.within c.in-default.ensures.answer in
+    let z = empty_queue c.loop-name.names c.loop-name.queued now.2.within c.in_default.ensures.answer in
     let was = subst (λ m. Waiting es room cells (take m c.loop-name.names) now.1.0 []) z now.1.1 in
     record {
       answer = all_written before es (laws.sound s) room (laws.within s) cells room4 now.0.0 c.loop-name.written now.0.1 now.1.0 was;

@@ -37,10 +37,10 @@ returns-in-Some g c =
     }
 
 -- every event has a name
-pub returns-in-default-name : goal.returns-in-default-name
-returns-in-default-name g c =
+pub returns-in_default-name : goal.returns-in_default-name
+returns-in_default-name g c =
     let es = g.S.EventStore.events c.args.store.now in
-    absurd (let l = none_past (λ (e : StoredEvent). e.name) es c.args.e c.in-default-name.ensures.answer in omega (arith, l, c.requires.1))
+    absurd (let l = none_past (λ (e : StoredEvent). e.name) es c.args.e c.in_default-name.ensures.answer in omega (arith, l, c.requires.1))
 
 -- its parents are all written, and it is in the queue
 pub returns-then-push : goal.returns-then-push
@@ -66,7 +66,7 @@ returns-then-push g c =
           (
             lines,
             entered es wf room cells (take len old) lines hand e x was (sym c.in-Some-name.ensures.answer) (take (len + 1) new)
-                (λ y. pushed_count (take len old) (take (len + 1) new) x y p.elements) c.in-default.ensures.answer,
+                (λ y. pushed_count (take len old) (take (len + 1) new) x y p.elements) c.in_default.ensures.answer,
           ),
           record { within = omega (arith, size, less); fits = (let f = q.fits in omega (arith, size, f)); heaped = p.ordered q.heaped },
         );

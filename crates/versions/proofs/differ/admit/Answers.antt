@@ -17,7 +17,7 @@ returns-in-Some-unknown_head g c =
       answer = (
         (omega arith, omega arith),
         inr (
-          subst (λ n. Known n c.args.first.now) count c.in-default.ensures.answer,
+          subst (λ n. Known n c.args.first.now) count c.in_default.ensures.answer,
           subst (λ n. FirstUnknown n c.args.second.now (Some c.in-Some-unknown_head.event)) count c.in-Some-unknown_head.ensures.answer,
         ),
       );
@@ -30,7 +30,7 @@ returns g c =
     record {
       answer = (
         (omega arith, omega arith),
-        subst (λ n. Known n c.args.first.now) count c.in-default.ensures.answer,
-        subst (λ n. Known n c.args.second.now) count c.in-default-unknown_head.ensures.answer,
+        subst (λ n. Known n c.args.first.now) count c.in_default.ensures.answer,
+        subst (λ n. Known n c.args.second.now) count c.in_default-unknown_head.ensures.answer,
       );
     }

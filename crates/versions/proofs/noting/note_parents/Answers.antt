@@ -7,7 +7,7 @@ use Rattle.versions.specs.Versions.{Parent}
 use Rattle.versions.specs.Searches.{Among, Noted}
 use Rattle.versions.proofs.Sets.{noted_none, noted_step, noted_skip, noted_same, all_parents}
 use Rattle.versions.proofs.noting.note_parents.Goals as goal
-use Rattle.versions.proofs.noting.note_parents.Goals.{in-Some, in-default}
+use Rattle.versions.proofs.noting.note_parents.Goals.{in-Some, in_default}
 
 moved : {P : ℕ → Type 0} {m : ℕ} {w v u : List ℕ} {s r t : Search} → u ≡ v → t ≡ r → Noted P m w s v r → Noted P m w s u t
 moved {P} {m} {w} {v} {u} {s} {r} {t} a b h = subst (λ z. Noted P m w s z t) (sym a) (subst (Noted P m w s v) (sym b) h)
@@ -21,7 +21,7 @@ loop-k-preserved g c =
     let k = c.loop-k.k in
     elim c.match-parent.branch [
       | in-Some w ↦ moved w.work-is w.noted-is (noted_step f k w.in-Some.parent (sym w.in-Some.ensures.answer) c.loop-k.invariant w.note-noted.ensures.after)
-      | in-default w ↦ moved w.work-is w.noted-is (noted_skip f k (sym w.in-default.ensures.answer) c.loop-k.invariant)
+      | in_default w ↦ moved w.work-is w.noted-is (noted_skip f k (sym w.in_default.ensures.answer) c.loop-k.invariant)
     ]
 
 pub note-noted-requires : goal.note-noted-requires

@@ -9,7 +9,7 @@ use Rattle.versions.proofs.questions.contains_all_below.Goals as goal
 
 pub returns-in_err-admit : goal.returns-in_err-admit
 returns-in_err-admit g c =
-    let p = err_from_is_err_and c.from-residual.result c.from-residual.ensures.1 in
+    let p = err_from_is_err_and c.from_residual.result c.from_residual.ensures.1 in
     record { answer = rw (p.1, p.2) c.in_err-admit.ensures.answer }
 
 pub returns-then-n-eq0 : goal.returns-then-n-eq0

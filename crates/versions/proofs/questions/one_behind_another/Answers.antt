@@ -11,13 +11,13 @@ use Rattle.versions.proofs.questions.one_behind_another.Goals as goal
 
 pub returns-in_err-admit : goal.returns-in_err-admit
 returns-in_err-admit g c =
-    let p = err_from_is_err_and c.from-residual.result c.from-residual.ensures.1 in
+    let p = err_from_is_err_and c.from_residual.result c.from_residual.ensures.1 in
     record { answer = rw (p.1, p.2) c.in_err-admit.ensures.answer }
 
 pub differing-alone-requires : goal.differing-alone-requires
 differing-alone-requires g c =
     let es = g.S.EventStore.events c.args.store.now in
-    let a = c.in-ok-admit.ensures.answer in
+    let a = c.in_ok-admit.ensures.answer in
     let xs = c.args.parents.now in
     let k = c.loop-k.k in
     let at = slice_get-get_or xs k 0 c.loop-k-test.true in

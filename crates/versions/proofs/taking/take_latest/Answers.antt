@@ -13,14 +13,14 @@ use Rattle.versions.proofs.taking.take_latest.Goals as goal
 some-queued : (w : List ℕ) (s : Search) (bound : ℕ) → Listed w s → Queued w s bound → 0 < s.pending → 0 < s.queued
 some-queued w s bound l q pos = omega (arith, pending_le w s l bound q)
 
-pub returns-in-default : goal.returns-in-default
-returns-in-default c =
+pub returns-in_default : goal.returns-in_default
+returns-in_default c =
     let w = c.args.work.now in
     let s = c.args.s in
     let l = c.requires.listed in
     let q = c.requires.queued.0 in
     let pos = some-queued w s q.0 l q.1 c.requires.queued.1 in
-    clash (queued w s.queued) (and_from _ _ (lt-ltb 0 s.queued pos) (le-leb s.queued (length w) (omega (arith, l.within, l.size, seen_le w s l)))) (sym c.in-default.ensures.answer)
+    clash (queued w s.queued) (and_from _ _ (lt-ltb 0 s.queued pos) (le-leb s.queued (length w) (omega (arith, l.within, l.size, seen_le w s l)))) (sym c.in_default.ensures.answer)
 
 pub mark_of-mark-requires : goal.mark_of-mark-requires
 mark_of-mark-requires c =
