@@ -10,7 +10,7 @@ use Rattle.fugue.proofs.Lists.{all_member, all_members, kept_member, member_kept
 use Rattle.fugue.specs.Logs.{NewestFirst, names, Distinct, ParentsHeld, Within, SameEvents}
 use Rattle.fugue.specs.Archive.{Ready, Next, WrittenFrom, ArchiveOrder}
 use Rattle.fugue.proofs.Names.{same_name, same_own, order_cases}
-use Rattle.fugue.proofs.Versions.{held, event_of_lem, one_event, same_back}
+use Rattle.fugue.proofs.Versions.{event_of_lem, one_event, same_back}
 use Rattle.fugue.proofs.SameEvents.{same_event}
 
 -- the events in archive order are held

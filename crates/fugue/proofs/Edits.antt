@@ -11,7 +11,6 @@ use Rattle.events.specs.declared.character.Character.{Character}
 use Rattle.events.specs.declared.deed.Deed.{Deed}
 use Rattle.events.specs.declared.deed.Deed.TheVariants as deed
 use Rattle.events.specs.Parts.{NamedEvent}
-use Rattle.fugue.specs.declared.edit.Edit.TheVariants.{Insert, Delete}
 use Rattle.fugue.specs.Names.{same, has, Ordered}
 use Rattle.fugue.specs.Logs.{NewestFirst, names, Distinct}
 use Rattle.fugue.specs.Tree.{Node, sequence, Grown}

@@ -4,9 +4,9 @@ use Rattle.std.specs.List.{AllByRecursion as All}
 use Rattle.std.proofs.lemmas.Bool.{both_ways, cond_both, or_right, or_left, or_cases, cases_Bool}
 use Rattle.std.proofs.ByRecursion.{all_kept_by, All-weaker, kept_by_passes}
 use Rattle.events.specs.declared.name.Name.{Name}
-use Rattle.fugue.specs.Names.{◌∈◌, same, has}
+use Rattle.fugue.specs.Names.{◌∈◌, same}
 pub use Rattle.fugue.specs.Tree.{has_node, ClosedPart}
-use Rattle.fugue.specs.Tree.{Attachment, root, left_of, rightOf, same_attachment, Node, Tree, children, only, node_names, AttachedTo, Grown}
+use Rattle.fugue.specs.Tree.{Attachment, root, left_of, rightOf, same_attachment, Node, Tree, children, only, AttachedTo, Grown}
 use Rattle.fugue.proofs.Lists.{all_member, all_both}
 use Rattle.fugue.proofs.Names.{attachment_is, same_name, same_own}
 use Rattle.fugue.proofs.Sorted.{Apart, all_sorted}
