@@ -1,8 +1,8 @@
 -- Induction along a grown tree, from what a node hangs on to the node.
-use Rattle.std.proofs.Common.{◌≡◌, Bool, true, false, ◌⊎◌, List, [], ◌∷◌, sym, refl, subst, inl, inr}
+use Rattle.std.proofs.Common.{◌≡◌, true, [], ◌∷◌, refl, subst, inl, inr}
 use Rattle.std.specs.List.{AllByRecursion as All}
 use Rattle.events.specs.declared.name.Name.{Name}
-use Rattle.fugue.specs.Names.{same, ◌∈◌}
+use Rattle.fugue.specs.Names.{◌∈◌}
 use Rattle.fugue.specs.Tree.{Attachment, root, left_of, rightOf, Node, Tree, AttachedTo, has_node, Grown}
 use Rattle.fugue.proofs.Grown.{node_of_lem}
 use Rattle.fugue.proofs.Lists.{all_member}

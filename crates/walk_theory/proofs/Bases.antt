@@ -1,8 +1,8 @@
 -- Two trees that grow alike over two bases.
-use Rattle.std.proofs.Common.{◌≡◌, ℕ, Bool, true, false, cond, not, ◌||◌, ◌⊎◌, ◌↔◌, List, [], ◌∷◌, ◌++◌, map, Some, None, Option, sym, refl, ap, ◌∙◌, subst, ap₂, inl, inr, arith}
+use Rattle.std.proofs.Common.{◌≡◌, Bool, true, false, cond, not, List, [], ◌∷◌, map, Some, None, Option, sym, refl, ap, ◌∙◌, subst, ap₂, inl, inr}
 use Rattle.std.specs.List.{AllByRecursion as All}
 use Rattle.std.proofs.lemmas.Bool.{both_ways, cases_Bool, or_cases, or_left, or_right}
-use Rattle.std.proofs.ByRecursion.{All-weaker, all_kept_by}
+use Rattle.std.proofs.ByRecursion.{All-weaker}
 use Rattle.events.specs.declared.name.Name.{Name}
 use Rattle.fugue.specs.Names.{same, Ordered, ◌∈◌, Rising}
 use Rattle.fugue.specs.Paths.{path, path_before}
@@ -13,8 +13,8 @@ use Rattle.fugue.proofs.Names.{same_name, same_own, attachment_is, attachment_re
 use Rattle.fugue.proofs.Paths.{path_transitive, by_paths, members}
 use Rattle.walk_theory.specs.Tops.{by_owner, topAt, beside_owner, comes_before}
 use Rattle.walk_theory.specs.Bases.{home_in, attached_over, node_over, grown_over, OnLater, LaterNodes, node_names, Agrees}
-use Rattle.walk_theory.proofs.Tops.{TopStep, tops}
-use Rattle.walk_theory.proofs.Over.{never, not_both, either, home_attached, Spot, named_late, named_base, named_cases, late_new, spot_of, grown_over_lem, base_none, attached_same, path_older, new_name, judged}
+use Rattle.walk_theory.proofs.Tops.{tops}
+use Rattle.walk_theory.proofs.Over.{never, not_both, either, home_attached, named_late, named_base, named_cases, late_new, spot_of, grown_over_lem, base_none, attached_same, path_older, new_name, judged}
 
 module _ {X : Type 0} where
   pub rising_both : (R S : X → X → Type 0) (l : List X) → Rising R l → Rising S l → Rising (λ x y. R x y × S x y) l

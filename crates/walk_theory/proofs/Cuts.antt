@@ -1,5 +1,5 @@
 -- ListsTheSequence that are cut where a test turns.
-use Rattle.std.proofs.Common.{◌≡◌, ℕ, zero, suc, ◌+◌, ◌-◌, Bool, true, false, cond, not, ◌⊎◌, List, [], ◌∷◌, ◌++◌, reverse, length, take, drop, filter, sym, refl, ap, ◌∙◌, subst, ap₂, inl, inr, arith, length-append}
+use Rattle.std.proofs.Common.{◌≡◌, ◌+◌, ◌-◌, Bool, true, false, not, List, [], ◌∷◌, ◌++◌, reverse, length, take, drop, filter, sym, refl, ap, ◌∙◌, subst, ap₂, inl, inr, arith, length-append}
 use mathlib.Core.List.{reverse-append}
 use lib.ListN.{length-reverse}
 use Rattle.std.specs.List.{prefix_len, suffix_len, AllByRecursion as All}
@@ -7,7 +7,7 @@ use Rattle.std.proofs.lemmas.Bool.{both_ways, cases_Bool}
 use Rattle.std.proofs.lemmas.List.Elements.{filter-append}
 use Rattle.std.proofs.ByRecursion.{All-weaker, All-append}
 use Rattle.fugue.specs.Names.{◌∈◌, Rising}
-use Rattle.fugue.proofs.Lists.{all_both, all_member, all_members, kept_nothing, kept_whole, in_left, in_right}
+use Rattle.fugue.proofs.Lists.{all_both, all_member, kept_nothing, kept_whole}
 
 module _ {X : Type 0} where
   pub all_left : (P : X → Type 0) (ls bs : List X) → All P (ls ++ bs) → All P ls

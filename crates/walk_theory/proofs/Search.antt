@@ -1,7 +1,7 @@
 -- The climb and the scan find the place that paths give.
-use Rattle.std.proofs.Common.{◌≡◌, ℕ, zero, suc, ◌+◌, ◌-◌, ◌<◌, ◌≤◌, Bool, true, false, cond, not, ◌&&◌, ◌⊎◌, ◌↔◌, List, [], ◌∷◌, ◌++◌, length, take, drop, Some, None, filter, Option, sym, refl, ap, ◌∙◌, subst, ap₂, inl, inr, append_assoc, arith}
-use Rattle.std.specs.List.{prefix_len, suffix_len, AllByRecursion as All}
-use Rattle.std.proofs.lemmas.Bool.{both_ways, cases_Bool, and_parts, and_from}
+use Rattle.std.proofs.Common.{◌≡◌, ℕ, zero, suc, ◌+◌, ◌<◌, ◌≤◌, Bool, true, false, cond, not, ◌&&◌, List, [], ◌∷◌, ◌++◌, length, take, drop, Some, None, Option, sym, refl, ap, ◌∙◌, subst, ap₂, inl, inr, append_assoc, arith}
+use Rattle.std.specs.List.{prefix_len, AllByRecursion as All}
+use Rattle.std.proofs.lemmas.Bool.{both_ways, cases_Bool, and_parts}
 use Rattle.std.proofs.ByRecursion.{All-weaker}
 use Rattle.events.specs.declared.name.Name.{Name}
 use Rattle.events.specs.declared.character.Character.{Character}
@@ -9,22 +9,22 @@ use Rattle.fugue.proofs.Grown.{inside}
 use Rattle.fugue.specs.Names.{same, Ordered, ◌∈◌, Rising}
 use Rattle.fugue.specs.Paths.{Step, end, right, left, steps_to, steps, path, path_before}
 use Rattle.fugue.specs.Placements.{after, attached_by}
-use Rattle.fugue.specs.Tree.{Attachment, root, left_of, rightOf, same_attachment, Node, Tree, children, sequence, only, AttachedTo, ClosedPart, has_node, Grown, Children, SequenceOf}
+use Rattle.fugue.specs.Tree.{Attachment, root, left_of, rightOf, same_attachment, Node, Tree, children, sequence, only, AttachedTo, ClosedPart, has_node, Grown, Children}
 use Rattle.fugue.proofs.Beside.{Starts}
-use Rattle.fugue.proofs.Grown.{has_own, age, aged, OnOlder, Aged, age_below, grown_only, attached_like, has_only, other_name, names_apart, node_of_lem}
+use Rattle.fugue.proofs.Grown.{has_own, age, aged, OnOlder, age_below, grown_only, has_only, node_of_lem}
 use Rattle.fugue.proofs.Leaf.{leaf}
-use Rattle.fugue.proofs.Lists.{all_member, all_members, kept_member, member_kept, in_left, in_right, rises_weaker, all_both}
+use Rattle.fugue.proofs.Lists.{all_member, all_members, kept_member, member_kept, in_right, rises_weaker, all_both}
 use Rattle.fugue.proofs.Names.{same_name, same_own, attachment_is, attachment_refl, same_not}
 use Rattle.fugue.proofs.Nested.{sequence_part}
-use Rattle.fugue.proofs.Paths.{steps_older, steps_own, path_irreflexive, path_transitive, path_total, by_paths, members}
+use Rattle.fugue.proofs.Paths.{steps_older, steps_own, path_irreflexive, path_transitive, by_paths, members}
 use Rattle.fugue.proofs.Sequences.{children_are, sequence_right}
 use Rattle.walk_theory.specs.Origins.{Origin, behind, up_to, front, new_node}
 use Rattle.walk_theory.specs.Tops.{by_owner, topAt, beside_owner, comes_before}
-use Rattle.walk_theory.specs.Search.{attachment_in, until, climb, topOutside, top_precedes, top_follows, home, run, up, down, among, place_for, Found}
+use Rattle.walk_theory.specs.Search.{attachment_in, until, climb, topOutside, top_precedes, top_follows, home, up, down, among, Found}
 use Rattle.walk_theory.proofs.Gaps.{followed}
 use Rattle.walk_theory.proofs.Along.{Hangs, along}
 use Rattle.walk_theory.proofs.Forks.{alike}
-use Rattle.walk_theory.proofs.Tops.{TopStep, tops, found, sides}
+use Rattle.walk_theory.proofs.Tops.{tops, found, sides}
 use Rattle.walk_theory.proofs.Cuts.{all_left, all_right, rising_left, rising_right, rising_across, Falls, all_high, all_low, leading_front, leading_stop, leading_like, kept_alike, kept_take, from_end, falls_like}
 use Rattle.walk_theory.proofs.Climbs.{Climbs, here, up as on, Begins, begins, nexts}
 

@@ -10,7 +10,7 @@ use Rattle.events.specs.declared.position.Position.{Position}
 use Rattle.events.specs.declared.deed.Deed.TheVariants as deed
 use Rattle.events.specs.Parts.{NamedEvent}
 use Rattle.fugue.specs.Names.{same, has, Ordered}
-use Rattle.fugue.specs.Logs.{NewestFirst, names, version, Distinct}
+use Rattle.fugue.specs.Logs.{NewestFirst, version, Distinct}
 use Rattle.fugue.specs.Tree.{Node, Tree, only, node_names, has_node}
 use Rattle.fugue.specs.Placements.{inserted, deleted, beyond, node_of, struck, LeftOrigin, start, node, left_origin, right_end_of, visible, attachmentAfter, placement, seen, placementIn, treeAt, tree}
 use Rattle.fugue.proofs.Names.{same_not}
