@@ -1,6 +1,6 @@
 -- The home by a count of what hangs at a place, and the place where nothing hangs at the home.
 use Rattle.std.proofs.Common.{◌≡◌, ℕ, zero, suc, ◌+◌, ◌≤◌, Bool, true, false, ◌&&◌, List, [], ◌∷◌, reverse, length, Some, None, filter, Option, sym, refl, ap, ◌∙◌, subst, inl, inr, arith}
-use Rattle.std.specs.List.{AllByRecursion as All}
+use Rattle.std.specs.List.{AllByRecursion}
 use Rattle.std.proofs.lemmas.Bool.{cases_Bool, and_parts, and_from}
 use Rattle.std.proofs.ByRecursion.{All-weaker}
 use Rattle.events.specs.declared.name.Name.{Name}
@@ -80,7 +80,7 @@ module _ (before : Name → Name → Bool) (o : Ordered before) (t : Tree) (g : 
       go None k = k
       go (Some z) k = let r = found t g h y n z k in absurd (free_of r.0 r.1 r.3)
 
-  run_named : All (λ n. has_node t n.name ≡ true) (until v (behind p s))
+  run_named : AllByRecursion (λ n. has_node t n.name ≡ true) (until v (behind p s))
   run_named = all_mid before o t g v cl p q x fx d deep _ (named_behind before o t g v cl p q x fx d deep)
 
   up_none : hung all p s ≡ 0 → up before d s v p x ≡ 0

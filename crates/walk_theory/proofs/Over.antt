@@ -1,6 +1,6 @@
 -- One tree that grows over a base.
 use Rattle.std.proofs.Common.{◌≡◌, ℕ, Bool, true, false, not, ◌⊎◌, List, [], ◌∷◌, ◌++◌, Some, None, Option, sym, refl, ap, ◌∙◌, subst, ap₂, inl, inr, arith}
-use Rattle.std.specs.List.{AllByRecursion as All}
+use Rattle.std.specs.List.{AllByRecursion}
 use Rattle.std.proofs.lemmas.Bool.{both_ways, cases_Bool, or_right, or_cases}
 use Rattle.std.proofs.ByRecursion.{All-weaker}
 use Rattle.events.specs.declared.name.Name.{Name}
@@ -118,14 +118,14 @@ module _ (before : Name → Name → Bool) (o : Ordered before) (b : Tree) (gb :
           let m = node_of_lem b c k in
           let rs : Rising (λ m n. L m.name n.name ≡ true) (front q s ++ n ∷ ns) = rw w at (rw (← (front_is q s (has_node b) h)) at (rises before o b gb)) in
           let i : m.0 ∈ (front q s ++ n ∷ ns) = rw w at (rw (← (front_is q s (has_node b) h)) at ((members before o b gb m.0).1 m.1)) in
-          let past-q : All (λ j. beside_owner before b q j.name ≡ false) (n ∷ ns) = rw w at (beside_past before o b gb q h) in
+          let past-q : AllByRecursion (λ j. beside_owner before b q j.name ≡ false) (n ∷ ns) = rw w at (beside_past before o b gb q h) in
           subst (λ z. L z n.name ≡ beside_owner before b q z) m.2
           (elim (in_either (front q s) (n ∷ ns) m.0 i) [
             | inl j ↦ rising_across _ (front q s) (n ∷ ns) rs m.0 n j (inl refl) ∙ sym (aside_front q h m.0 j)
             | inr j ↦ behind_n n ns m.0 j (rising_right _ (front q s) (n ∷ ns) rs).0 ∙ sym (all_member _ (n ∷ ns) m.0 past-q j)
           ])
         where
-          behind_n : (n : Node) (ns : List Node) (d : Node) → d ∈ (n ∷ ns) → All (λ j. L n.name j.name ≡ true) ns → L d.name n.name ≡ false
+          behind_n : (n : Node) (ns : List Node) (d : Node) → d ∈ (n ∷ ns) → AllByRecursion (λ j. L n.name j.name ≡ true) ns → L d.name n.name ≡ false
           behind_n n ns d (inl e) a = rw e (never before o b gb n.name)
           behind_n n ns d (inr i) a = not_both before o b gb n.name d.name (all_member _ ns d a i)
 

@@ -1,6 +1,6 @@
 -- The index beside the true tree: at the start, at each new event, and at a checkpoint.
 use Rattle.std.proofs.Common.{◌≡◌, ℕ, ◌+◌, ◌≤◌, Bool, true, false, not, ◌&&◌, List, [], ◌∷◌, ◌++◌, length, filter, sym, refl, ap, ◌∙◌, subst, ap₂, subst₂, inl, inr, append_assoc, append-nil, arith, length-append}
-use Rattle.std.specs.List.{AllByRecursion as All}
+use Rattle.std.specs.List.{AllByRecursion}
 use Rattle.std.proofs.lemmas.Bool.{both_ways, cases_Bool, or_from, or_left, and_parts, and_from}
 use Rattle.std.proofs.ByRecursion.{All-weaker}
 use Rattle.events.specs.declared.name.Name.{Name}
@@ -89,7 +89,7 @@ module _ (before : Name → Name → Bool) (o : Ordered before) where
   ]
 
   chain : (l : List Node) (t : Tree) → Grown t → (q : Attachment) → Origin (has_node t) q → Children before t q [] → front q (sequence before t) ≡ sequence before t → behind q (sequence before t) ≡ []
-      → All (λ n. has_node t n.name ≡ false) l → Rising (λ m n. m.name ≡ n.name → ⊥) l → Chained t q l
+      → AllByRecursion (λ n. has_node t n.name ≡ false) l → Rising (λ m n. m.name ≡ n.name → ⊥) l → Chained t q l
   chain [] t g q h k ef eb a r = record { grown = g; is = sym (append-nil (sequence before t)) }
   chain (n ∷ l) t g q h k ef eb a r =
       let s = sequence before t in
@@ -181,7 +181,7 @@ pub names_only : (p : Name → Bool) (l : List Node) → node_names (only p l) �
 names_only p [] = refl
 names_only p (n ∷ l) = let ih = names_only p l in elim (cases_Bool (p n.name)) [ inl e ↦ rw e (ap (λ z. n.name ∷ z) ih) | inr e ↦ rw e ih ]
 
-pub kept_both : (p q r : Name → Bool) (l : List Name) → All (λ y. r y ≡ (p y && q y)) l → filter p (filter q l) ≡ filter r l
+pub kept_both : (p q r : Name → Bool) (l : List Name) → AllByRecursion (λ y. r y ≡ (p y && q y)) l → filter p (filter q l) ≡ filter r l
 kept_both p q r [] a = refl
 kept_both p q r (y ∷ l) a = let ih = kept_both p q r l a.1 in let e = a.0 in grind (arith, ih, e)
 

@@ -1,6 +1,6 @@
 -- A node's order beside a new node goes by its topAt.
 use Rattle.std.proofs.Common.{◌≡◌, ℕ, Bool, true, false, cond, ◌⊎◌, List, [], ◌∷◌, ◌++◌, length, Some, None, Option, sym, refl, ap, ◌∙◌, inl, inr, append_assoc, arith, length-append}
-use Rattle.std.specs.List.{AllByRecursion as All}
+use Rattle.std.specs.List.{AllByRecursion}
 use Rattle.std.proofs.lemmas.Bool.{both_ways, cases_Bool}
 use Rattle.std.proofs.lemmas.List.{same_from_push}
 use Rattle.std.proofs.ByRecursion.{All-weaker}
@@ -51,7 +51,7 @@ pub top_own : (n : Node) (older : Tree) (q : Attachment) → topAt (n ∷ older)
 unfolding topAt
 top_own n older q = rw (same_own n.name)
 
-pub tops : (t : Tree) (q : Attachment) → Grown t → All (TopStep t q) t
+pub tops : (t : Tree) (q : Attachment) → Grown t → AllByRecursion (TopStep t q) t
 tops [] q g = tt
 tops (n ∷ older) q g = (
   top_own n older q ∙ ap (λ z. cond (same_attachment n.attachment q) (Some n.name) z) (by_owner_older n older q g.0 n.attachment g.1),
