@@ -1,6 +1,6 @@
 -- Archive order exists, is one, and is an order in which the events could have come.
 use Rattle.std.proofs.Common.{◌≡◌, ℕ, zero, suc, ◌<◌, ◌≤◌, Bool, true, false, not, ◌&&◌, ◌⊎◌, List, [], ◌∷◌, length, filter, sym, refl, ap, ◌∙◌, subst, ap₂, inl, inr, arith}
-use Rattle.std.specs.List.{AllZip, AllByRecursion as All}
+use Rattle.std.specs.List.{AllZip, AllByRecursion}
 use Rattle.std.proofs.lemmas.Bool.{both_ways, cases_Bool, and_parts, and_from, or_left, not-true}
 use Rattle.std.proofs.ByRecursion.{All-weaker}
 use Rattle.events.specs.declared.name.Name.{Name}
@@ -10,12 +10,12 @@ use Rattle.fugue.proofs.Lists.{all_member, all_members, kept_member, member_kept
 use Rattle.fugue.specs.Logs.{NewestFirst, names, Distinct, ParentsHeld, Within, SameEvents}
 use Rattle.fugue.specs.Archive.{Ready, Next, WrittenFrom, ArchiveOrder}
 use Rattle.fugue.proofs.Names.{same_name, same_own, order_cases}
-use Rattle.fugue.proofs.Versions.{held, event_of_lem, one_event, same_back}
+use Rattle.fugue.proofs.Versions.{event_of_lem, one_event, same_back}
 use Rattle.fugue.proofs.SameEvents.{same_event}
 
 -- the events in archive order are held
 
-written_held : (before : Name → Name → Bool) (log : NewestFirst) (written : List Name) (es : List NamedEvent) → WrittenFrom before written log es → All (λ e. e ∈ log) es
+written_held : (before : Name → Name → Bool) (log : NewestFirst) (written : List Name) (es : List NamedEvent) → WrittenFrom before written log es → AllByRecursion (λ e. e ∈ log) es
 written_held before log written [] w = tt
 written_held before log written (e ∷ es) w = (w.0.ready.held, written_held before log (e.name ∷ written) es w.1)
 
@@ -56,7 +56,7 @@ module _ (before : Name → Name → Bool) (o : Ordered before) where
     ]
   ]
 
-  all_written : (a b : NewestFirst) → Within b a → (written : List Name) → All (λ e. has written e.name ≡ true) a → (e : NamedEvent) → Ready written b e → ⊥
+  all_written : (a b : NewestFirst) → Within b a → (written : List Name) → AllByRecursion (λ e. has written e.name ≡ true) a → (e : NamedEvent) → Ready written b e → ⊥
   all_written a b w written h e r =
       let d = w e r.held in both_ways _ r.unwritten (rw d.2.name (all_member _ a d.0 h d.1))
 
@@ -71,7 +71,7 @@ module _ (before : Name → Name → Bool) (o : Ordered before) where
 
 -- lists of events by their names
 by_names : (R : NamedEvent → NamedEvent → Type 0) (a b : NewestFirst) → ((d e : NamedEvent) → d ∈ a → e ∈ b → d.name ≡ e.name → R d e)
-    → (es fs : List NamedEvent) → All (λ e. e ∈ a) es → All (λ e. e ∈ b) fs → names es ≡ names fs → AllZip R es fs
+    → (es fs : List NamedEvent) → AllByRecursion (λ e. e ∈ a) es → AllByRecursion (λ e. e ∈ b) fs → names es ≡ names fs → AllZip R es fs
 by_names R a b h [] [] i j q = tt
 by_names R a b h [] (f ∷ fs) i j q = absurd (let z : ◌≡◌ {A = ℕ} 0 1 = cc in omega arith)
 by_names R a b h (e ∷ es) [] i j q = absurd (let z : ◌≡◌ {A = ℕ} 0 1 = cc in omega arith)
@@ -105,12 +105,12 @@ all_has : List Name → List Name → Bool
 all_has written [] = true
 all_has written (p ∷ ps) = has written p && all_has written ps
 
-all_has_lem : (written ps : List Name) → all_has written ps ≡ true → All (λ p. has written p ≡ true) ps
+all_has_lem : (written ps : List Name) → all_has written ps ≡ true → AllByRecursion (λ p. has written p ≡ true) ps
 unfolding all_has
 all_has_lem written [] h = tt
 all_has_lem written (p ∷ ps) h = let r = and_parts (has written p) (all_has written ps) h in (r.0, all_has_lem written ps r.1)
 
-has_all : (written ps : List Name) → All (λ p. has written p ≡ true) ps → all_has written ps ≡ true
+has_all : (written ps : List Name) → AllByRecursion (λ p. has written p ≡ true) ps → all_has written ps ≡ true
 unfolding all_has
 has_all written [] h = refl
 has_all written (p ∷ ps) h = and_from _ _ h.0 (has_all written ps h.1)
@@ -131,7 +131,7 @@ module _ (written : List Name) (log : NewestFirst) where
   from_ready e r = kept_member (is_ready written) log e (and_from _ _ (ap not r.unwritten) (has_all written e.parents r.after)) r.held
 
 -- the oldest unwritten event is ready
-some_ready : (log : NewestFirst) → ParentsHeld log → (written : List Name) → All (λ e. has written e.name ≡ true) log ⊎ ((e : NamedEvent) × Ready written log e)
+some_ready : (log : NewestFirst) → ParentsHeld log → (written : List Name) → AllByRecursion (λ e. has written e.name ≡ true) log ⊎ ((e : NamedEvent) × Ready written log e)
 some_ready [] k written = inl tt
 some_ready (d ∷ older) k written = elim (some_ready older k.1 written) [
   | inl all ↦ elim (cases_Bool (has written d.name)) [
@@ -188,7 +188,7 @@ module _ (before : Name → Name → Bool) (o : Ordered before) where
         ]
       ]
 
-  some_next : (log : NewestFirst) → ParentsHeld log → (written : List Name) → All (λ e. has written e.name ≡ true) log ⊎ ((e : NamedEvent) × Next before written log e)
+  some_next : (log : NewestFirst) → ParentsHeld log → (written : List Name) → AllByRecursion (λ e. has written e.name ≡ true) log ⊎ ((e : NamedEvent) × Next before written log e)
   some_next log k written = elim (some_ready log k written) [
     | inl all ↦ inl all
     | inr r ↦ inr (pick r.0 (filter (is_ready written) log) refl (from_ready written log r.0 r.1))

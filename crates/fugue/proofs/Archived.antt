@@ -7,7 +7,7 @@ use Rattle.fugue.specs.Names.{◌∈◌, has, Ordered}
 use Rattle.fugue.proofs.Lists.{Alike, all_member}
 use Rattle.fugue.specs.Logs.{NewestFirst, names, Distinct, ParentsHeld, Within}
 use Rattle.fugue.specs.Archive.{Admits, Admissible, Next, WrittenFrom, ArchiveOrder}
-use Rattle.fugue.proofs.Versions.{held, event_of_lem, one_event, behind_forth, behind_back}
+use Rattle.fugue.proofs.Versions.{event_of_lem, one_event, behind_forth, behind_back}
 use Rattle.fugue.proofs.SameEvents.{same_event, same_placement, placements_within}
 
 pub in_reverse : {X : Type 0} (xs acc : List X) (x : X) → (x ∈ xs) ⊎ (x ∈ acc) → x ∈ reverse_aux xs acc

@@ -1,6 +1,6 @@
 -- A new node comes into its parents' sequence right after its left origin.
 use Rattle.std.proofs.Common.{◌≡◌, ℕ, Bool, true, false, cond, ◌||◌, List, [], ◌∷◌, ◌++◌, sym, refl, ap, ◌∙◌, subst, ap₂, inl, inr, append_assoc, append-nil, arith}
-use Rattle.std.specs.List.{flat_map, AllByRecursion as All}
+use Rattle.std.specs.List.{flat_map, AllByRecursion}
 use Rattle.std.proofs.lemmas.Bool.{both_ways, cases_Bool}
 use Rattle.events.specs.declared.name.Name.{Name}
 use Rattle.events.specs.declared.character.Character.{Character}
@@ -202,7 +202,7 @@ joined_beside : (f : Node → List Node) (us : List Node) (n : Node) (bs : List 
     → Apart (us ++ n ∷ bs) → flat_map f (us ++ n ∷ bs) ≡ us ++ (f n ++ bs)
 joined_beside f [] n bs others a = ap (λ z. f n ++ z) (plain bs a.0)
   where
-    plain : (bs : List Node) → All (λ m. n.name ≡ m.name → ⊥) bs → flat_map f bs ≡ bs
+    plain : (bs : List Node) → AllByRecursion (λ m. n.name ≡ m.name → ⊥) bs → flat_map f bs ≡ bs
     plain [] a = refl
     plain (m ∷ bs) a = rw (others m (λ q. a.0 (sym q))) (ap (λ z. m ∷ z) (plain bs a.1))
 joined_beside f (u ∷ us) n bs others a =

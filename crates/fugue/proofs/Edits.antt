@@ -1,7 +1,7 @@
 -- An edit, carried out on the old text, gives the new text.
 use Rattle.std.proofs.Common.{◌≡◌, ℕ, suc, ◌<◌, ◌≤◌, Bool, true, false, not, ◌||◌, List, [], ◌∷◌, ◌++◌, map, length, take, drop, Some, None, filter, Option, sym, refl, ap, ◌∙◌, subst, ap₂, inl, inr, arith, length-append}
 use lib.Seq.{take-append_seam, drop-append_seam}
-use Rattle.std.specs.List.{AllByRecursion as All, slice_get}
+use Rattle.std.specs.List.{AllByRecursion, slice_get}
 use Rattle.std.proofs.lemmas.List.{map-append}
 use Rattle.std.proofs.lemmas.Bool.{both_ways, cases_Bool, or_cases}
 use Rattle.std.proofs.lemmas.List.Elements.{filter-append}
@@ -11,7 +11,6 @@ use Rattle.events.specs.declared.character.Character.{Character}
 use Rattle.events.specs.declared.deed.Deed.{Deed}
 use Rattle.events.specs.declared.deed.Deed.TheVariants as deed
 use Rattle.events.specs.Parts.{NamedEvent}
-use Rattle.fugue.specs.declared.edit.Edit.TheVariants.{Insert, Delete}
 use Rattle.fugue.specs.Names.{same, has, Ordered}
 use Rattle.fugue.specs.Logs.{NewestFirst, names, Distinct}
 use Rattle.fugue.specs.Tree.{Node, sequence, Grown}
@@ -168,7 +167,7 @@ module _ (before : Name → Name → Bool) (o : Ordered before) (ps : List Place
       after_text =
           let rest = others y C D target cut_here.name apart_here in
           let q : same y target.name ≡ true = ap (same y) cut_here.name ∙ same_own y in
-          let like : All (λ m. gone m ≡ shown m) (C ++ D) = All-weaker _ _ (λ m k. rw k) (C ++ D) rest in
+          let like : AllByRecursion (λ m. gone m ≡ shown m) (C ++ D) = All-weaker _ _ (λ m k. rw k) (C ++ D) rest in
           deleted_are y
           ∙ ap spell (ap (filter gone) cut_here.is ∙ filter-append gone C (target ∷ D) ∙ rw q
           (ap₂ ◌++◌ (kept_like gone shown C (all_left _ C D like)) (kept_like gone shown D (all_right _ C D like))))

@@ -1,17 +1,17 @@
 -- Trees that grew node by node: their names, ages of nodes, and closed parts.
 use Rattle.std.proofs.Common.{◌≡◌, ℕ, ◌<◌, Bool, true, false, cond, ◌||◌, [], ◌∷◌, ◌++◌, length, refl, inl, inr, arith}
-use Rattle.std.specs.List.{AllByRecursion as All}
+use Rattle.std.specs.List.{AllByRecursion}
 use Rattle.std.proofs.lemmas.Bool.{both_ways, cond_both, or_right, or_left, or_cases, cases_Bool}
 use Rattle.std.proofs.ByRecursion.{all_kept_by, All-weaker, kept_by_passes}
 use Rattle.events.specs.declared.name.Name.{Name}
-use Rattle.fugue.specs.Names.{◌∈◌, same, has}
+use Rattle.fugue.specs.Names.{◌∈◌, same}
 pub use Rattle.fugue.specs.Tree.{has_node, ClosedPart}
-use Rattle.fugue.specs.Tree.{Attachment, root, left_of, rightOf, same_attachment, Node, Tree, children, only, node_names, AttachedTo, Grown}
+use Rattle.fugue.specs.Tree.{Attachment, root, left_of, rightOf, same_attachment, Node, Tree, children, only, AttachedTo, Grown}
 use Rattle.fugue.proofs.Lists.{all_member, all_both}
 use Rattle.fugue.proofs.Names.{attachment_is, same_name, same_own}
 use Rattle.fugue.proofs.Sorted.{Apart, all_sorted}
 
-pub has_own : (t : Tree) → All (λ n. has_node t n.name ≡ true) t
+pub has_own : (t : Tree) → AllByRecursion (λ n. has_node t n.name ≡ true) t
 has_own [] = tt
 has_own (n ∷ older) = (or_left _ _ (same_own n.name), All-weaker _ _ (λ m. or_right _ _) older (has_own older))
 
@@ -39,8 +39,8 @@ names_apart [] g = tt
 names_apart (n ∷ older) g =
     (All-weaker _ _ (λ m h e. both_ways _ g.0 (rw e h)) older (has_own older), names_apart older g.2)
 
-pub all_children : (before : Name → Name → Bool) (P : Node → Type 0) (t : Tree) (q : Attachment) → All P t
-    → All (λ n. P n × (n.attachment ≡ q)) (children before t q)
+pub all_children : (before : Name → Name → Bool) (P : Node → Type 0) (t : Tree) (q : Attachment) → AllByRecursion P t
+    → AllByRecursion (λ n. P n × (n.attachment ≡ q)) (children before t q)
 unfolding children
 all_children before P t q a =
     all_sorted before _ _ (all_both _ _ _ (all_kept_by _ _ t a)
@@ -52,7 +52,7 @@ attached_like p q h (left_of x) a = h x a
 attached_like p q h (rightOf x) a = h x a
 
 -- every node is attached inside the tree
-pub inside : (t : Tree) → Grown t → All (λ n. (has_node t n.name ≡ true) × AttachedTo (has_node t) n.attachment) t
+pub inside : (t : Tree) → Grown t → AllByRecursion (λ n. (has_node t n.name ≡ true) × AttachedTo (has_node t) n.attachment) t
 inside [] g = tt
 inside (n ∷ older) g = (
   (or_left _ _ (same_own n.name), attached_like _ _ (λ x. or_right _ _) n.attachment g.1),
@@ -98,7 +98,7 @@ on_new t s h root k e a = tt
 on_new t s h (left_of x) k e a = let f = h x a in let l = age_below t x a in omega (arith, f, l)
 on_new t s h (rightOf x) k e a = let f = h x a in let l = age_below t x a in omega (arith, f, l)
 
-pub aged : (t : Tree) → Grown t → All (Aged (length t) (age t)) t
+pub aged : (t : Tree) → Grown t → AllByRecursion (Aged (length t) (age t)) t
 aged [] g = tt
 aged (n ∷ older) g = (
   (omega (arith, age_own n older), on_new older (age (n ∷ older)) (λ x. age_older n older x g.0) n.attachment _ (age_own n older) g.1),

@@ -1,6 +1,6 @@
 -- Where the newest node comes into the sequence.
 use Rattle.std.proofs.Common.{◌≡◌, Bool, true, false, not, ◌⊎◌, List, [], ◌∷◌, ◌++◌, filter, sym, refl, ap, ◌∙◌, subst, ap₂, inl, inr, append-nil}
-use Rattle.std.specs.List.{AllByRecursion as All}
+use Rattle.std.specs.List.{AllByRecursion}
 use Rattle.std.proofs.lemmas.Bool.{both_ways, cases_Bool}
 use Rattle.std.proofs.lemmas.List.Elements.{filter-append}
 use Rattle.std.proofs.ByRecursion.{All-weaker}
@@ -19,7 +19,7 @@ use Rattle.fugue.proofs.Paths.{path_irreflexive, path_transitive, by_paths, memb
 use Rattle.fugue.proofs.Beside.{cut}
 
 -- the other nodes of a sequence have other names
-pub others : (x : Name) (a b : List Node) (n : Node) → n.name ≡ x → Apart (a ++ n ∷ b) → All (λ m. same x m.name ≡ false) (a ++ b)
+pub others : (x : Name) (a b : List Node) (n : Node) → n.name ≡ x → Apart (a ++ n ∷ b) → AllByRecursion (λ m. same x m.name ≡ false) (a ++ b)
 others x a b n e h = all_members _ (a ++ b) (λ m i. same_not x m.name (go a h m i))
   where
     go : (a : List Node) → Apart (a ++ n ∷ b) → (m : Node) → m ∈ (a ++ b) → x ≡ m.name → ⊥
@@ -63,7 +63,7 @@ module _ (before : Name → Name → Bool) (o : Ordered before) (n : Node) (t : 
   pub old_is : sequence before t ≡ front ++ back
   old_is =
       let keep : Node → Bool = λ m. older m.name in
-      let all : All (λ m. keep m ≡ true) (front ++ back)
+      let all : AllByRecursion (λ m. keep m ≡ true) (front ++ back)
       = All-weaker _ _ (λ m h. ap not h) (front ++ back) (others n.name front back n refl (subst Apart new_is (sequence_apart before o (n ∷ t) g))) in
       ap (sequence before) (sym rest)
       ∙ sequence_part before o older (n ∷ t) g closed
@@ -80,10 +80,10 @@ module _ (before : Name → Name → Bool) (o : Ordered before) (n : Node) (t : 
   abbrev low : Node → Bool
   low m = precedes before (n ∷ t) m.name n.name
 
-  lows : All (λ m. low m ≡ true) front
+  lows : AllByRecursion (λ m. low m ≡ true) front
   lows = all_members _ front (λ m i. rises_across Before front (n ∷ back) order m n i (inl refl))
 
-  highs : All (λ m. low m ≡ false) back
+  highs : AllByRecursion (λ m. low m ≡ false) back
   highs = All-weaker _ _ (λ m b. not_low m b (cases_Bool (low m))) back (rises_right Before front (n ∷ back) order).0
     where
       not_low : (m : Node) → Before n m → (low m ≡ true) ⊎ (low m ≡ false) → low m ≡ false

@@ -1,6 +1,6 @@
 -- Members of lists, and lists in a strict order.
 use Rattle.std.proofs.Common.{◌≡◌, ℕ, zero, suc, ◌<◌, ◌≤◌, Bool, true, false, cond, ◌⊎◌, ◌↔◌, List, [], ◌∷◌, ◌++◌, map, length, get_or, Some, filter, sym, refl, ap, ◌∙◌, ap₂, inl, inr, arith}
-use Rattle.std.specs.List.{ContainsAt as Has, flat_map, AllByRecursion as All, slice_get}
+use Rattle.std.specs.List.{ContainsAt as Has, flat_map, AllByRecursion, slice_get}
 use Rattle.std.proofs.lemmas.Bool.{cond_both}
 use Rattle.std.proofs.ByRecursion.{All-append, all_kept_by, kept_by_passes, All-weaker}
 use Rattle.fugue.specs.Names.{◌∈◌, Rising}
@@ -10,24 +10,24 @@ abbrev pub Alike : {X : Type 0} → List X → List X → Type 0
 Alike {X} xs ys = (x : X) → x ∈ xs ↔ x ∈ ys
 
 module _ {X : Type 0} where
-  pub all_member : (P : X → Type 0) (xs : List X) (x : X) → All P xs → x ∈ xs → P x
+  pub all_member : (P : X → Type 0) (xs : List X) (x : X) → AllByRecursion P xs → x ∈ xs → P x
   all_member P [] x a i = elim i [ ]
   all_member P (y ∷ ys) x a (inl e) = rw e a.0
   all_member P (y ∷ ys) x a (inr i) = all_member P ys x a.1 i
 
-  pub all_members : (P : X → Type 0) (xs : List X) → ((x : X) → x ∈ xs → P x) → All P xs
+  pub all_members : (P : X → Type 0) (xs : List X) → ((x : X) → x ∈ xs → P x) → AllByRecursion P xs
   all_members P [] h = tt
   all_members P (y ∷ ys) h = (h y (inl refl), all_members P ys (λ x i. h x (inr i)))
 
-  pub all_both : (P Q : X → Type 0) (xs : List X) → All P xs → All Q xs → All (λ x. P x × Q x) xs
+  pub all_both : (P Q : X → Type 0) (xs : List X) → AllByRecursion P xs → AllByRecursion Q xs → AllByRecursion (λ x. P x × Q x) xs
   all_both P Q [] a b = tt
   all_both P Q (x ∷ xs) a b = ((a.0, b.0), all_both P Q xs a.1 b.1)
 
-  pub all_left : (P : X → Type 0) (xs ys : List X) → All P (xs ++ ys) → All P xs
+  pub all_left : (P : X → Type 0) (xs ys : List X) → AllByRecursion P (xs ++ ys) → AllByRecursion P xs
   all_left P [] ys a = tt
   all_left P (x ∷ xs) ys a = (a.0, all_left P xs ys a.1)
 
-  pub all_right : (P : X → Type 0) (xs ys : List X) → All P (xs ++ ys) → All P ys
+  pub all_right : (P : X → Type 0) (xs ys : List X) → AllByRecursion P (xs ++ ys) → AllByRecursion P ys
   all_right P [] ys a = a
   all_right P (x ∷ xs) ys a = all_right P xs ys a.1
 
@@ -57,20 +57,20 @@ module _ {X : Type 0} where
     all_member _ _ x (kept_by_passes p xs) i,
   )
 
-  pub kept_nothing : (p : X → Bool) (xs : List X) → All (λ x. p x ≡ false) xs → filter p xs ≡ []
+  pub kept_nothing : (p : X → Bool) (xs : List X) → AllByRecursion (λ x. p x ≡ false) xs → filter p xs ≡ []
   kept_nothing p [] a = refl
   kept_nothing p (x ∷ xs) a = rw a.0 (kept_nothing p xs a.1)
 
-  pub kept_whole : (p : X → Bool) (xs : List X) → All (λ x. p x ≡ true) xs → filter p xs ≡ xs
+  pub kept_whole : (p : X → Bool) (xs : List X) → AllByRecursion (λ x. p x ≡ true) xs → filter p xs ≡ xs
   kept_whole p [] a = refl
   kept_whole p (x ∷ xs) a = rw a.0 (ap (λ l. x ∷ l) (kept_whole p xs a.1))
 
-  pub kept_like : (p q : X → Bool) (xs : List X) → All (λ x. p x ≡ q x) xs → filter p xs ≡ filter q xs
+  pub kept_like : (p q : X → Bool) (xs : List X) → AllByRecursion (λ x. p x ≡ q x) xs → filter p xs ≡ filter q xs
   kept_like p q [] a = refl
   kept_like p q (x ∷ xs) a = let ih = kept_like p q xs a.1 in let e = a.0 in grind arith
 
   -- what p transitive, q does too
-  pub kept_twice : (p q : X → Bool) (xs : List X) → All (λ x. p x ≡ true → q x ≡ true) xs → filter p (filter q xs) ≡ filter p xs
+  pub kept_twice : (p q : X → Bool) (xs : List X) → AllByRecursion (λ x. p x ≡ true → q x ≡ true) xs → filter p (filter q xs) ≡ filter p xs
   kept_twice p q [] a = refl
   kept_twice p q (x ∷ xs) a = let ih = kept_twice p q xs a.1 in grind (arith, a.0)
 
@@ -123,7 +123,7 @@ module _ {X : Type 0} where
         cond_both (p x) (x ∷ filter p xs) (filter p xs) (Rising R)
         (λ _. (all_kept_by p (R x) xs h.0, rises_kept p xs h.1)) (λ _. rises_kept p xs h.1)
 
-    pub rises_joined : (xs ys : List X) → Rising R xs → Rising R ys → All (λ x. All (R x) ys) xs → Rising R (xs ++ ys)
+    pub rises_joined : (xs ys : List X) → Rising R xs → Rising R ys → AllByRecursion (λ x. AllByRecursion (R x) ys) xs → Rising R (xs ++ ys)
     rises_joined [] ys g h a = h
     rises_joined (x ∷ xs) ys g h a = (All-append (R x) xs ys g.0 a.0, rises_joined xs ys g.1 h a.1)
 
@@ -145,12 +145,12 @@ module _ {X : Type 0} where
 
     -- a rising list has no other order
     module _ (irreflexive : (x : X) → R x x → ⊥) (transitive : (x y z : X) → R x y → R y z → R x z) where
-      same_head : (x y : X) (xs ys : List X) → All (R x) xs → All (R y) ys → x ∈ (y ∷ ys) → y ∈ (x ∷ xs) → x ≡ y
+      same_head : (x y : X) (xs ys : List X) → AllByRecursion (R x) xs → AllByRecursion (R y) ys → x ∈ (y ∷ ys) → y ∈ (x ∷ xs) → x ≡ y
       same_head x y xs ys a b (inl e) j = e
       same_head x y xs ys a b (inr i) (inl f) = sym f
       same_head x y xs ys a b (inr i) (inr j) = absurd (irreflexive x (transitive x y x (all_member (R x) xs y a j) (all_member (R y) ys x b i)))
 
-      same_tail : (x : X) (xs ys : List X) → All (R x) xs → ((z : X) → z ∈ (x ∷ xs) → z ∈ (x ∷ ys)) → (z : X) → z ∈ xs → z ∈ ys
+      same_tail : (x : X) (xs ys : List X) → AllByRecursion (R x) xs → ((z : X) → z ∈ (x ∷ xs) → z ∈ (x ∷ ys)) → (z : X) → z ∈ xs → z ∈ ys
       same_tail x xs ys a h z i = elim (h z (inr i)) [ inl e ↦ absurd (irreflexive x (rw e at (all_member (R x) xs z a i))) | inr j ↦ j ]
 
       pub members_decide : (xs ys : List X) → Rising R xs → Rising R ys → ((x : X) → x ∈ xs ↔ x ∈ ys) → xs ≡ ys

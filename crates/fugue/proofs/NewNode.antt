@@ -1,6 +1,6 @@
 -- Among the nodes of its parents' version a new node comes right after its left origin, in every tree that has them.
 use Rattle.std.proofs.Common.{◌≡◌, ℕ, zero, suc, Bool, true, false, not, ◌⊎◌, List, [], ◌∷◌, ◌++◌, Some, filter, sym, refl, ap, ◌∙◌, subst, ap₂, inl, inr, arith}
-use Rattle.std.specs.List.{AllByRecursion as All, slice_get}
+use Rattle.std.specs.List.{AllByRecursion, slice_get}
 use Rattle.events.specs.declared.name.Name.{Name}
 use Rattle.events.specs.declared.character.Character.{Character}
 use Rattle.events.specs.declared.position.Position.{Position}
@@ -25,15 +25,15 @@ module _ (a b : Tree) (ga : Grown a) (gb : Grown b) (sub : (n : Node) → n ∈ 
   abbrev Same : Name → Type 0
   Same y = steps a y ≡ steps b y
 
-  by_node : (older : Tree) → All (λ n. Same n.name) older → (y : Name) → has_node older y ≡ true → Same y
+  by_node : (older : Tree) → AllByRecursion (λ n. Same n.name) older → (y : Name) → has_node older y ≡ true → Same y
   by_node older s y h = let r = node_of_lem older y h in subst Same r.2 (all_member _ older r.0 s r.1)
 
-  to_same : (older : Tree) → All (λ n. Same n.name) older → (q : Attachment) (x : Name) → AttachedTo (has_node older) q → steps_to (steps a) q x ≡ steps_to (steps b) q x
+  to_same : (older : Tree) → AllByRecursion (λ n. Same n.name) older → (q : Attachment) (x : Name) → AttachedTo (has_node older) q → steps_to (steps a) q x ≡ steps_to (steps b) q x
   to_same older s root x h = refl
   to_same older s (left_of y) x h = rw (by_node older s y h)
   to_same older s (rightOf y) x h = rw (by_node older s y h)
 
-  steps_same : (older : Tree) → Grown older → ((n : Node) → n ∈ older → n ∈ a) → All (λ n. Same n.name) older
+  steps_same : (older : Tree) → Grown older → ((n : Node) → n ∈ older → n ∈ a) → AllByRecursion (λ n. Same n.name) older
   steps_same [] g in_a = tt
   steps_same (n ∷ older) g in_a =
       let s = steps_same older g.2 (λ m i. in_a m (inr i)) in
@@ -97,17 +97,17 @@ module _ (before : Name → Name → Bool) (o : Ordered before) (seenTree : Tree
             absurd (both_ways _ (path_irreflexive before o (path t x)) (path_transitive before o (path t x) (path t m.name) (path t x) b q))
         not_back (inr q) = q
 
-    pub among : All (λ m. precedes before t m.name x ≡ not (has_node (following p s) m.name)) s
+    pub among : AllByRecursion (λ m. precedes before t m.name x ≡ not (has_node (following p s) m.name)) s
     among = all_members _ s (λ m i. elim (in_either (up_to p s) (following p s) m (rw (up_to_following p s) at i)) [ inl j ↦ earlier m j | inr j ↦ later m j ])
 
 -- by the log
-pub origin_in : (t : Tree) (ns : List Node) → All (λ n. has_node t n.name ≡ true) ns → (p : ℕ) (q : LeftOrigin) → left_origin ns p ≡ Some q → Origin (has_node t) q
+pub origin_in : (t : Tree) (ns : List Node) → AllByRecursion (λ n. has_node t n.name ≡ true) ns → (p : ℕ) (q : LeftOrigin) → left_origin ns p ≡ Some q → Origin (has_node t) q
 origin_in t ns a zero start e = tt
 origin_in t ns a zero (node y) e = absurd (let z : ◌≡◌ {A = ℕ} 0 1 = cc in omega arith)
 origin_in t ns a (suc p) start e = tt
 origin_in t ns a (suc p) (node y) e = go ns a p e
   where
-    go : (ns : List Node) → All (λ n. has_node t n.name ≡ true) ns → (p : ℕ) → origin_of (slice_get ns p) ≡ Some (node y) → has_node t y ≡ true
+    go : (ns : List Node) → AllByRecursion (λ n. has_node t n.name ≡ true) ns → (p : ℕ) → origin_of (slice_get ns p) ≡ Some (node y) → has_node t y ≡ true
     go [] a p e = absurd (let z : ◌≡◌ {A = ℕ} 0 1 = cc in omega arith)
     go (n ∷ ns) a zero e = let z : n.name ≡ y = cc in rw z at a.0
     go (n ∷ ns) a (suc p) e = go ns a.1 p e

@@ -1,7 +1,7 @@
 -- Events numbered in archive order: parents below, the same events, and an admissible log.
 use Rattle.std.proofs.Common.{◌≡◌, ℕ, zero, suc, ◌+◌, ◌<◌, ◌≤◌, Bool, true, false, cond, ◌⊎◌, List, [], ◌∷◌, ◌++◌, map, reverse, length, Some, filter, sym, refl, ap, ◌∙◌, subst, ap₂, inl, inr, append_assoc, arith}
 use mathlib.Core.List.{reverse_aux}
-use Rattle.std.specs.List.{flat_map, AllByRecursion as All, slice_get}
+use Rattle.std.specs.List.{flat_map, AllByRecursion, slice_get}
 use Rattle.std.proofs.lemmas.Bool.{both_ways, cases_Bool, or_left, or_parts}
 use Rattle.std.proofs.ByRecursion.{All-weaker}
 use Rattle.events.specs.declared.name.Name.{Name}
@@ -80,12 +80,12 @@ number_of k (x ∷ xs) ps j m = go (has ps x) refl m (number_of (suc k) xs ps j)
     go true q (inr n) ih = later (ih n)
     go false q n ih = later (ih n)
 
-numbers_above : (k : ℕ) (xs ps : List Name) → All (λ j. k ≤ j) (numbers_from k xs ps) × Rising (λ i j. i < j) (numbers_from k xs ps)
+numbers_above : (k : ℕ) (xs ps : List Name) → AllByRecursion (λ j. k ≤ j) (numbers_from k xs ps) × Rising (λ i j. i < j) (numbers_from k xs ps)
 numbers_above k [] ps = (tt, tt)
 numbers_above k (x ∷ xs) ps = go (has ps x) (numbers_above (suc k) xs ps)
   where
-    go : (b : Bool) → All (λ j. suc k ≤ j) (numbers_from (suc k) xs ps) × Rising (λ i j. i < j) (numbers_from (suc k) xs ps)
-        → All (λ j. k ≤ j) (cond b (k ∷ numbers_from (suc k) xs ps) (numbers_from (suc k) xs ps)) × Rising (λ i j. i < j) (cond b (k ∷ numbers_from (suc k) xs ps) (numbers_from (suc k) xs ps))
+    go : (b : Bool) → AllByRecursion (λ j. suc k ≤ j) (numbers_from (suc k) xs ps) × Rising (λ i j. i < j) (numbers_from (suc k) xs ps)
+        → AllByRecursion (λ j. k ≤ j) (cond b (k ∷ numbers_from (suc k) xs ps) (numbers_from (suc k) xs ps)) × Rising (λ i j. i < j) (cond b (k ∷ numbers_from (suc k) xs ps) (numbers_from (suc k) xs ps))
     go true r = ((omega arith, All-weaker _ _ (λ j h. omega arith) _ r.0), (r.0, r.1))
     go false r = (All-weaker _ _ (λ j h. omega arith) _ r.0, r.1)
 
@@ -111,11 +111,11 @@ module _ (before : Name → Name → Bool) (log : NewestFirst) where
   nth_stored all (d ∷ es) (suc i) e q = nth_stored all es i e q
 
   pub parents_below_lem : (es : List NamedEvent) → Apart (names es) → ArchiveOrder before log es → (i : ℕ) (e : StoredEvent) → slice_get (numbered es) i ≡ Some e
-      → All (λ p. p < i) e.parents × Rising (λ p q. p < q) e.parents
+      → AllByRecursion (λ p. p < i) e.parents × Rising (λ p q. p < q) e.parents
   parents_below_lem es a w i e q =
       let r = nth_stored es es i e q in
       let d = r.0 in
-      subst (λ z. All (λ p. p < i) z.parents × Rising (λ p q. p < q) z.parents) r.2 (
+      subst (λ z. AllByRecursion (λ p. p < i) z.parents × Rising (λ p q. p < q) z.parents) r.2 (
         all_members _ (numbers_from 0 (names es) d.parents) (λ j m.
             let n = number_of 0 (names es) d.parents j m in
             elim (earlier es [] w i d r.1 n.1 (has_in d.parents n.1 n.4)) [
@@ -130,7 +130,7 @@ module _ (xs : List Name) where
   abbrev reorder : NamedEvent → NamedEvent
   reorder e = record { name = e.name; deed = e.deed; parents = filter (has e.parents) xs }
 
-  reordered : (e : NamedEvent) → All (λ p. has xs p ≡ true) e.parents → SameEvent (reorder e) e
+  reordered : (e : NamedEvent) → AllByRecursion (λ p. has xs p ≡ true) e.parents → SameEvent (reorder e) e
   reordered e a = record {
     name = refl;
     deed = refl;
@@ -178,7 +178,7 @@ module _ (xs : List Name) where
   names_reordered (e ∷ log) = ap (λ l. e.name ∷ l) (names_reordered log)
 
   abbrev Known : NewestFirst → Type 0
-  Known log = All (λ e. All (λ p. has xs p ≡ true) e.parents) log
+  Known log = AllByRecursion (λ e. AllByRecursion (λ p. has xs p ≡ true) e.parents) log
 
   within_reordered : (log : NewestFirst) → Known log → Within (map reorder log) log
   within_reordered [] a e i = elim i [ ]
@@ -204,7 +204,7 @@ module _ (xs : List Name) where
         let u' = admissible_distinct before (map reorder log) h' in
         let k' = admissible_held before (map reorder log) h' in
         let old : (p : Name) → p ∈ filter (has e.parents) xs → p ∈ e.parents = λ p i. has_in e.parents p (member_kept (has e.parents) xs p i).1 in
-        let ps : All (λ p. has (names (map reorder log)) p ≡ true) (filter (has e.parents) xs)
+        let ps : AllByRecursion (λ p. has (names (map reorder log)) p ≡ true) (filter (has e.parents) xs)
         = all_members _ _ (λ p i. rw (names_reordered log) (all_member _ e.parents p m.held (old p i))) in
         let same = same_placement before o log u k (map reorder log) log (reorder e) e
         (record {
@@ -271,7 +271,7 @@ module _ (before : Name → Name → Bool) (o : Ordered before) (log : NewestFir
         | inr k ↦ elim k [ ]
       ]))
 
-  pub numbered_below : (i : ℕ) (e : StoredEvent) → slice_get (numbered es) i ≡ Some e → All (λ p. p < i) e.parents × Rising (λ p q. p < q) e.parents
+  pub numbered_below : (i : ℕ) (e : StoredEvent) → slice_get (numbered es) i ≡ Some e → AllByRecursion (λ p. p < i) e.parents × Rising (λ p q. p < q) e.parents
   numbered_below = parents_below_lem before log es apart_here v
 
   pub numbered_same : SameEvents (log_of (numbered es)) log

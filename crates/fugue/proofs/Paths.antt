@@ -1,6 +1,6 @@
 -- The sequence is the list of the nodes that rises-by-path by their paths.
 use Rattle.std.proofs.Common.{◌≡◌, Bool, true, false, ◌⊎◌, ◌↔◌, List, [], ◌∷◌, ◌++◌, refl, ap, ◌∙◌, inl, inr, append_assoc, arith}
-use Rattle.std.specs.List.{AllByRecursion as All}
+use Rattle.std.specs.List.{AllByRecursion}
 use Rattle.std.proofs.lemmas.Bool.{both_ways}
 use Rattle.std.proofs.ByRecursion.{All-weaker, All-append}
 use Rattle.events.specs.declared.name.Name.{Name}
@@ -75,7 +75,7 @@ steps_own n older = rw (same_own n.name)
 abbrev pub Stepped : Tree → (Name → List Step) → Node → Type 0
 Stepped t w n = w n.name ≡ steps_to w n.attachment n.name
 
-pub stepped : (t : Tree) → Grown t → All (Stepped t (steps t)) t
+pub stepped : (t : Tree) → Grown t → AllByRecursion (Stepped t (steps t)) t
 stepped [] g = tt
 stepped (n ∷ older) g = (
   steps_own n older ∙ to_older n older g.0 n.attachment n.name g.1,
@@ -83,7 +83,7 @@ stepped (n ∷ older) g = (
       (all_both _ _ older (inside older g.2) (stepped older g.2)),
 )
 
-module _ (before : Name → Name → Bool) (o : Ordered before) (t : Tree) (w : Name → List Step) (eq : All (Stepped t w) t) where
+module _ (before : Name → Name → Bool) (o : Ordered before) (t : Tree) (w : Name → List Step) (eq : AllByRecursion (Stepped t w) t) where
   abbrev AnyName : Name → Type 0
   AnyName x = Unit {0}
 
@@ -91,7 +91,7 @@ module _ (before : Name → Name → Bool) (o : Ordered before) (t : Tree) (w : 
   abbrev GoesBy : List Step → (Name → Step) → (Name → Type 0) → Node → Type 0
   GoesBy u c P m = (x : Name) × P x × (z : List Step) × (w m.name ++ end ∷ [] ≡ u ++ c x ∷ z)
 
-  attached : (q : Attachment) (ns : List Node) → Children before t q ns → All (λ k. w k.name ≡ steps_to w q k.name) ns
+  attached : (q : Attachment) (ns : List Node) → Children before t q ns → AllByRecursion (λ k. w k.name ≡ steps_to w q k.name) ns
   attached q ns k = all_members _ ns (λ n i. let h = (k.are n).0 i in rw h.1 at (all_member _ t n eq h.0))
 
   -- what goes through a child of n goes through n
@@ -101,21 +101,21 @@ module _ (before : Name → Name → Bool) (o : Ordered before) (t : Tree) (w : 
       (n.name, p, d h.0 ∷ h.2, h.3 ∙ ap (λ v. v ++ d h.0 ∷ h.2) e ∙ append_assoc u (c n.name ∷ []) (d h.0 ∷ h.2))
 
   through_node : (n : Node) (l r : List Node) (u : List Step) (c : Name → Step) (P : Name → Type 0) → P n.name → w n.name ≡ u ++ c n.name ∷ []
-      → All (GoesBy (w n.name) left AnyName) l → All (GoesBy (w n.name) right AnyName) r → All (GoesBy u c P) (l ++ n ∷ r)
+      → AllByRecursion (GoesBy (w n.name) left AnyName) l → AllByRecursion (GoesBy (w n.name) right AnyName) r → AllByRecursion (GoesBy u c P) (l ++ n ∷ r)
   through_node n l r u c P p e al ar =
       All-append (GoesBy u c P) l (n ∷ r) (All-weaker _ _ (through_parent n u c left P AnyName p e) l al) (
         (n.name, p, end ∷ [], ap (λ v. v ++ end ∷ []) e ∙ append_assoc u (c n.name ∷ []) (end ∷ [])),
         All-weaker _ _ (through_parent n u c right P AnyName p e) r ar,
       )
 
-  lefts : (n : Node) (ls : List Node) → Children before t (left_of n.name) ls → All (λ k. AnyName k.name × (w k.name ≡ w n.name ++ left k.name ∷ [])) ls
+  lefts : (n : Node) (ls : List Node) → Children before t (left_of n.name) ls → AllByRecursion (λ k. AnyName k.name × (w k.name ≡ w n.name ++ left k.name ∷ [])) ls
   lefts n ls k = All-weaker _ _ (λ m h. (tt, h)) ls (attached (left_of n.name) ls k)
 
-  rights : (n : Node) (rs : List Node) → Children before t (rightOf n.name) rs → All (λ k. AnyName k.name × (w k.name ≡ w n.name ++ right k.name ∷ [])) rs
+  rights : (n : Node) (rs : List Node) → Children before t (rightOf n.name) rs → AllByRecursion (λ k. AnyName k.name × (w k.name ≡ w n.name ++ right k.name ∷ [])) rs
   rights n rs k = All-weaker _ _ (λ m h. (tt, h)) rs (attached (rightOf n.name) rs k)
 
   through : {ns s : List Node} → InSequence before t ns s → (u : List Step) (c : Name → Step) (P : Name → Type 0)
-      → All (λ k. P k.name × (w k.name ≡ u ++ c k.name ∷ [])) ns → All (GoesBy u c P) s
+      → AllByRecursion (λ k. P k.name × (w k.name ≡ u ++ c k.name ∷ [])) ns → AllByRecursion (GoesBy u c P) s
   through none u c P a = tt
   through (next {n = n} {ls = ls} {rs = rs} {s = s} {l = l} {r = r} kl vl kr vr vs) u c P a =
       All-append (GoesBy u c P) (l ++ n ∷ r) s
@@ -126,15 +126,15 @@ module _ (before : Name → Name → Bool) (o : Ordered before) (t : Tree) (w : 
   Precedes m n = path_before before (w m.name ++ end ∷ []) (w n.name ++ end ∷ []) ≡ true
 
   parted : (u : List Step) (c d : Name → Step) (P Q : Name → Type 0) → ((x y : Name) → P x → Q y → step_before before (c x) (d y) ≡ true)
-      → (ms ns : List Node) → All (GoesBy u c P) ms → All (GoesBy u d Q) ns → All (λ m. All (Precedes m) ns) ms
+      → (ms ns : List Node) → AllByRecursion (GoesBy u c P) ms → AllByRecursion (GoesBy u d Q) ns → AllByRecursion (λ m. AllByRecursion (Precedes m) ns) ms
   parted u c d P Q h ms ns a b =
       All-weaker _ _ (λ m g. All-weaker _ _ (λ n f. fork before o u _ _ g.2 f.2 (c g.0) (d f.0) g.3 f.3 (h _ _ g.1 f.1)) ns b) ms a
 
-  ends_here : (n : Node) → All (GoesBy (w n.name) (λ _. end) AnyName) (n ∷ [])
+  ends_here : (n : Node) → AllByRecursion (GoesBy (w n.name) (λ _. end) AnyName) (n ∷ [])
   ends_here n = ((n.name, tt, [], refl), tt)
 
   rises_by_path : {ns s : List Node} → InSequence before t ns s → (u : List Step) (c : Name → Step) → ((x y : Name) → before x y ≡ true → step_before before (c x) (c y) ≡ true)
-      → All (λ k. w k.name ≡ u ++ c k.name ∷ []) ns → InOrder before ns → Rising Precedes s
+      → AllByRecursion (λ k. w k.name ≡ u ++ c k.name ∷ []) ns → InOrder before ns → Rising Precedes s
   rises_by_path none u c h a b = tt
   rises_by_path (next {n = n} {ns = ns} {ls = ls} {rs = rs} {s = s} {l = l} {r = r} kl vl kr vr vs) u c h a b =
       let al = through vl (w n.name) left AnyName (lefts n ls kl) in
@@ -181,7 +181,7 @@ module _ (before : Name → Name → Bool) (o : Ordered before) (t : Tree) (g : 
   seq : SequenceOf before t (sequence before t)
   seq = sequence_right before o t g
 
-  joins : (n : Node) (older : Tree) (q : Attachment) → n.attachment ≡ q → AttachedTo (has_node older) q → n ∈ t → All (λ m. m ∈ sequence before t) older
+  joins : (n : Node) (older : Tree) (q : Attachment) → n.attachment ≡ q → AttachedTo (has_node older) q → n ∈ t → AllByRecursion (λ m. m ∈ sequence before t) older
       → n ∈ sequence before t
   joins n older root e h i a = sibling_in before t seq.in_sequence n ((seq.children.are n).1 (i, e))
   joins n older (left_of x) e h i a =
@@ -191,7 +191,7 @@ module _ (before : Name → Name → Bool) (o : Ordered before) (t : Tree) (g : 
       let r = node_of_lem older x h in
       child_in before t seq.in_sequence r.0 n (all_member _ older r.0 a r.1) i (inr (rw r.2 e))
 
-  all_reached : (older : Tree) → Grown older → ((n : Node) → n ∈ older → n ∈ t) → All (λ m. m ∈ sequence before t) older
+  all_reached : (older : Tree) → Grown older → ((n : Node) → n ∈ older → n ∈ t) → AllByRecursion (λ m. m ∈ sequence before t) older
   all_reached [] h sub = tt
   all_reached (n ∷ older) h sub =
       let a = all_reached older h.2 (λ m i. sub m (inr i)) in

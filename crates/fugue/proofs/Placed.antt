@@ -1,7 +1,7 @@
 -- Placing the events of a log grows a tree, of which every version is a closed part.
 use Rattle.std.proofs.Common.{◌≡◌, ℕ, zero, suc, Bool, true, false, cond, List, [], ◌∷◌, ◌++◌, Some, filter, Option, unwrap_or, sym, refl, ap, ◌∙◌, inl, inr}
 use Rattle.std.specs.Option.{option_map}
-use Rattle.std.specs.List.{flat_map, AllByRecursion as All, slice_get}
+use Rattle.std.specs.List.{flat_map, AllByRecursion, slice_get}
 use Rattle.std.proofs.lemmas.Bool.{both_ways, cond_both, or_right, or_left, or_cases, cases_Bool}
 use Rattle.std.proofs.ByRecursion.{all_kept_by, All-weaker}
 use Rattle.events.specs.declared.name.Name.{Name}
@@ -36,15 +36,15 @@ Fitting t x (inserted n) = (n.name ≡ x) × AttachedTo (has_node t) n.attachmen
 Fitting t x (deleted y) = has_node t y ≡ true
 Fitting t x beyond = Unit {0}
 
-all_following : (P : Node → Type 0) (o : LeftOrigin) (s : List Node) → All P s → All P (following o s)
+all_following : (P : Node → Type 0) (o : LeftOrigin) (s : List Node) → AllByRecursion P s → AllByRecursion P (following o s)
 all_following P start s a = a
 all_following P (node x) s a = go s a
   where
-    go : (s : List Node) → All P s → All P (after x s)
+    go : (s : List Node) → AllByRecursion P s → AllByRecursion P (after x s)
     go [] a = tt
-    go (n ∷ s) a = cond_both (same n.name x) s (after x s) (All P) (λ _. a.1) (λ _. go s a.1)
+    go (n ∷ s) a = cond_both (same n.name x) s (after x s) (AllByRecursion P) (λ _. a.1) (λ _. go s a.1)
 
-attached_by_lem : (p : Name → Bool) (ks follow : List Node) (q : Attachment) → All (λ n. p n.name ≡ true) follow → AttachedTo p q → AttachedTo p (attached_by ks follow q)
+attached_by_lem : (p : Name → Bool) (ks follow : List Node) (q : Attachment) → AllByRecursion (λ n. p n.name ≡ true) follow → AttachedTo p q → AttachedTo p (attached_by ks follow q)
 attached_by_lem p [] follow q a h = h
 attached_by_lem p (k ∷ ks) [] q a h = h
 attached_by_lem p (k ∷ ks) (n ∷ ns) q a h = a.0
@@ -59,7 +59,7 @@ right_end p start h = tt
 right_end p (node x) h = h
 
 module _ (before : Name → Name → Bool) where
-  pub in_tree : (t : Tree) → All (λ n. has_node t n.name ≡ true) (sequence before t)
+  pub in_tree : (t : Tree) → AllByRecursion (λ n. has_node t n.name ≡ true) (sequence before t)
   in_tree t = all_sequence before _ t (has_own t)
 
   pub attachment_inside : (t : Tree) (o : LeftOrigin) → Origin (has_node t) o → AttachedTo (has_node t) (attachmentAfter before t o)
@@ -69,17 +69,17 @@ module _ (before : Name → Name → Bool) where
   insert_sound : (ps : List Placed) (x : Name) (c : Character) (o : LeftOrigin) → Origin (has_node (nodes ps)) o → Fitting (nodes ps) x (inserted_at before ps x c (Some o))
   insert_sound ps x c o h = (refl, attachment_inside (nodes ps) o h)
 
-  pub visible_in : (ps : List Placed) → All (λ n. has_node (nodes ps) n.name ≡ true) (visible before ps)
+  pub visible_in : (ps : List Placed) → AllByRecursion (λ n. has_node (nodes ps) n.name ≡ true) (visible before ps)
   unfolding visible
   visible_in ps = all_kept_by _ _ _ (in_tree (nodes ps))
 
-  found_sound : (ps : List Placed) (x : Name) (c : Character) (ns : List Node) (p : ℕ) → All (λ n. has_node (nodes ps) n.name ≡ true) ns
+  found_sound : (ps : List Placed) (x : Name) (c : Character) (ns : List Node) (p : ℕ) → AllByRecursion (λ n. has_node (nodes ps) n.name ≡ true) ns
       → Fitting (nodes ps) x (inserted_at before ps x c (origin_of (slice_get ns p)))
   found_sound ps x c [] p a = tt
   found_sound ps x c (n ∷ ns) zero a = insert_sound ps x c (node n.name) a.0
   found_sound ps x c (n ∷ ns) (suc p) a = found_sound ps x c ns p a.1
 
-  strike_sound : (t : Tree) (x : Name) (ns : List Node) (p : ℕ) → All (λ n. has_node t n.name ≡ true) ns → Fitting t x (deleted_at (slice_get ns p))
+  strike_sound : (t : Tree) (x : Name) (ns : List Node) (p : ℕ) → AllByRecursion (λ n. has_node t n.name ≡ true) ns → Fitting t x (deleted_at (slice_get ns p))
   strike_sound t x [] p a = tt
   strike_sound t x (n ∷ ns) zero a = a.0
   strike_sound t x (n ∷ ns) (suc p) a = strike_sound t x ns p a.1
@@ -95,7 +95,7 @@ module _ (before : Name → Name → Bool) where
 
 -- every placed node has its event's name
 abbrev pub Own : List Placed → Type 0
-Own ps = All (λ p. (t : Tree) × Fitting t p.name p.placement) ps
+Own ps = AllByRecursion (λ p. (t : Tree) × Fitting t p.name p.placement) ps
 
 pub nodes_part : (v : Name → Bool) (ps : List Placed) → Own ps → nodes (filter (λ p. v p.name) ps) ≡ only v (nodes ps)
 unfolding nodes
@@ -214,7 +214,7 @@ module _ (before : Name → Name → Bool) where
   pub grown_part : (log : NewestFirst) → Distinct log → (heads : List Name) → Grown (treeAt before log heads)
   grown_part log u heads = rw (tree_part log heads) (grown_only (has (version log heads)) (tree before log) (grown_log log u) (closed_log log u heads))
 
-  pub inside_part : (log : NewestFirst) → Distinct log → (heads : List Name) → All (λ n. AttachedTo (has_node (treeAt before log heads)) n.attachment) (treeAt before log heads)
+  pub inside_part : (log : NewestFirst) → Distinct log → (heads : List Name) → AllByRecursion (λ n. AttachedTo (has_node (treeAt before log heads)) n.attachment) (treeAt before log heads)
   inside_part log u heads = All-weaker _ _ (λ n h. h.1) (treeAt before log heads) (inside (treeAt before log heads) (grown_part log u heads))
 
   module _ (o : Ordered before) where

@@ -1,6 +1,6 @@
 -- Logs that hold the same events have the same placements, texts and edits.
 use Rattle.std.proofs.Common.{◌≡◌, Bool, true, false, List, [], ◌∷◌, ◌++◌, sym, refl, ap, ◌∙◌, subst, ap₂, inl, inr}
-use Rattle.std.specs.List.{AllByRecursion as All}
+use Rattle.std.specs.List.{AllByRecursion}
 use Rattle.std.proofs.lemmas.Bool.{both_ways, cases_Bool, or_right, or_left, or_cases}
 use Rattle.events.specs.declared.name.Name.{Name}
 use Rattle.events.specs.Parts.{NamedEvent, SameEvent}
@@ -97,7 +97,7 @@ module _ (before : Name → Name → Bool) where
       sub : (e : NamedEvent) → e ∈ older → e ∈ b
       distinct : Distinct older
       below : ParentsHeld older
-      parents : All (λ p. has (names older) p ≡ true) d.parents
+      parents : AllByRecursion (λ p. has (names older) p ≡ true) d.parents
       placed : PlacedIn older b
       is : place older d ∈ placements before b
 
@@ -108,7 +108,7 @@ module _ (before : Name → Name → Bool) where
     sub = λ c j. inr j;
     distinct = ub.1;
     below = kb.1;
-    parents = subst (λ z. All (λ p. has (names b) p ≡ true) z.parents) (sym f) kb.0;
+    parents = subst (λ z. AllByRecursion (λ p. has (names b) p ≡ true) z.parents) (sym f) kb.0;
     placed = λ p j. rw (placements_step e b) (inr j);
     is = rw (placements_step e b) (inl (ap (place b) f));
   }

@@ -1,6 +1,6 @@
 -- A grown tree has one sequence, the one computed.
 use Rattle.std.proofs.Common.{◌≡◌, ℕ, zero, suc, ◌+◌, ◌<◌, ◌≤◌, Bool, true, List, [], ◌∷◌, ◌++◌, length, refl, arith}
-use Rattle.std.specs.List.{flat_map, AllByRecursion as All}
+use Rattle.std.specs.List.{flat_map, AllByRecursion}
 use Rattle.std.proofs.lemmas.Bool.{both_ways}
 use Rattle.std.proofs.ByRecursion.{All-weaker, All-append}
 use Rattle.events.specs.declared.name.Name.{Name}
@@ -13,21 +13,21 @@ use Rattle.fugue.proofs.Grown.{Aged, age, aged, all_children, names_apart}
 
 -- a fact about all nodes of a tree is one about its sequence
 module _ (before : Name → Name → Bool) (P : Node → Type 0) where
-  all_in_joined : (f : Node → List Node) → ((n : Node) → P n → All P (f n)) → (ns : List Node) → All P ns → All P (flat_map f ns)
+  all_in_joined : (f : Node → List Node) → ((n : Node) → P n → AllByRecursion P (f n)) → (ns : List Node) → AllByRecursion P ns → AllByRecursion P (flat_map f ns)
   all_in_joined f h [] a = tt
   all_in_joined f h (n ∷ ns) a = All-append P (f n) (flat_map f ns) (h n a.0) (all_in_joined f h ns a.1)
 
-  children_all : (t : Tree) (q : Attachment) → All P t → All P (children before t q)
+  children_all : (t : Tree) (q : Attachment) → AllByRecursion P t → AllByRecursion P (children before t q)
   children_all t q a = All-weaker _ P (λ n u. u.0) _ (all_children before P t q a)
 
-  all_from_node : (t : Tree) → All P t → (d : ℕ) (n : Node) → P n → All P (sequenceFrom before d t n)
+  all_from_node : (t : Tree) → AllByRecursion P t → (d : ℕ) (n : Node) → P n → AllByRecursion P (sequenceFrom before d t n)
   unfolding sequenceFrom
   all_from_node t a zero n p = tt
   all_from_node t a (suc d) n p =
       All-append P _ _ (all_in_joined (sequenceFrom before d t) (all_from_node t a d) _ (children_all t (left_of n.name) a))
       (p, all_in_joined (sequenceFrom before d t) (all_from_node t a d) _ (children_all t (rightOf n.name) a))
 
-  pub all_sequence : (t : Tree) → All P t → All P (sequence before t)
+  pub all_sequence : (t : Tree) → AllByRecursion P t → AllByRecursion P (sequence before t)
   unfolding sequence
   all_sequence t a = all_in_joined _ (all_from_node t a (length t)) _ (children_all t root a)
 
@@ -55,13 +55,13 @@ module _ (before : Name → Name → Bool) (o : Ordered before) where
       let c = one_sequence t u u' in
       λ i. (a i ++ n ∷ b i) ++ c i
 
-  module _ (t : Tree) (g : Grown t) (size : ℕ) (r : Name → ℕ) (good : All (Aged size r) t) where
+  module _ (t : Tree) (g : Grown t) (size : ℕ) (r : Name → ℕ) (good : AllByRecursion (Aged size r) t) where
     -- as deep as the nodes below n may lie
     abbrev Deep : ℕ → Node → Type 0
     Deep d n = (r n.name < size) × (size ≤ d + r n.name)
 
-    from_deeper : (d : ℕ) → ((ns : List Node) → All (Deep d) ns → InSequence before t ns (flat_map (sequenceFrom before d t) ns))
-        → (ns : List Node) → All (Deep (suc d)) ns → InSequence before t ns (flat_map (sequenceFrom before (suc d) t) ns)
+    from_deeper : (d : ℕ) → ((ns : List Node) → AllByRecursion (Deep d) ns → InSequence before t ns (flat_map (sequenceFrom before d t) ns))
+        → (ns : List Node) → AllByRecursion (Deep (suc d)) ns → InSequence before t ns (flat_map (sequenceFrom before (suc d) t) ns)
     unfolding sequenceFrom
     from_deeper d ih [] a = none
     from_deeper d ih (n ∷ ns) a =
@@ -74,7 +74,7 @@ module _ (before : Name → Name → Bool) (o : Ordered before) where
         (all_children before (Aged size r) t (rightOf n.name) good)))
         (from_deeper d ih ns a.1)
 
-    in_sequence_lem : (d : ℕ) (ns : List Node) → All (Deep d) ns → InSequence before t ns (flat_map (sequenceFrom before d t) ns)
+    in_sequence_lem : (d : ℕ) (ns : List Node) → AllByRecursion (Deep d) ns → InSequence before t ns (flat_map (sequenceFrom before d t) ns)
     in_sequence_lem zero [] a = none
     in_sequence_lem zero (n ∷ ns) a = absurd (omega (arith, a.0))
     in_sequence_lem (suc d) ns a = from_deeper d (in_sequence_lem d) ns a

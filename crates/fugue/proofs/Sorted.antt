@@ -1,6 +1,6 @@
 -- Sorting keeps the nodes, and puts nodes with different names into sibling order.
 use Rattle.std.proofs.Common.{◌≡◌, Bool, true, false, List, [], ◌∷◌, refl, inl, inr, arith}
-use Rattle.std.specs.List.{AllByRecursion as All}
+use Rattle.std.specs.List.{AllByRecursion}
 use Rattle.std.proofs.lemmas.Bool.{cond_both}
 use Rattle.std.proofs.ByRecursion.{All-weaker}
 use Rattle.events.specs.declared.name.Name.{Name}
@@ -20,11 +20,11 @@ module _ (before : Name → Name → Bool) where
       → (before m.name n.name ≡ false → P (n ∷ m ∷ ms)) → P (among before n (m ∷ ms))
   among_cases n m ms P = cond_both (before m.name n.name) (m ∷ among before n ms) (n ∷ m ∷ ms) P
 
-  all_among : (P : Node → Type 0) (n : Node) (ms : List Node) → P n → All P ms → All P (among before n ms)
+  all_among : (P : Node → Type 0) (n : Node) (ms : List Node) → P n → AllByRecursion P ms → AllByRecursion P (among before n ms)
   all_among P n [] p a = (p, tt)
-  all_among P n (m ∷ ms) p a = among_cases n m ms (All P) (λ _. (a.0, all_among P n ms p a.1)) (λ _. (p, a))
+  all_among P n (m ∷ ms) p a = among_cases n m ms (AllByRecursion P) (λ _. (a.0, all_among P n ms p a.1)) (λ _. (p, a))
 
-  pub all_sorted : (P : Node → Type 0) (ns : List Node) → All P ns → All P (sorted before ns)
+  pub all_sorted : (P : Node → Type 0) (ns : List Node) → AllByRecursion P ns → AllByRecursion P (sorted before ns)
   unfolding sorted
   all_sorted P [] a = tt
   all_sorted P (n ∷ ns) a = all_among P n (sorted before ns) a.0 (all_sorted P ns a.1)
@@ -45,7 +45,7 @@ module _ (before : Name → Name → Bool) where
   in_sorted (n ∷ ns) x (inr i) = among_old n (sorted before ns) x (in_sorted ns x i)
 
   module _ (o : Ordered before) where
-    among_rises : (n : Node) (ms : List Node) → InOrder before ms → All (λ m. n.name ≡ m.name → ⊥) ms → InOrder before (among before n ms)
+    among_rises : (n : Node) (ms : List Node) → InOrder before ms → AllByRecursion (λ m. n.name ≡ m.name → ⊥) ms → InOrder before (among before n ms)
     among_rises n [] r a = (tt, tt)
     among_rises n (m ∷ ms) r a =
         among_cases n m ms (InOrder before)

@@ -1,7 +1,7 @@
 -- In its parents' text an event does what it says, at its own position.
 use Rattle.std.proofs.Common.{◌≡◌, ℕ, zero, suc, ◌<◌, ◌≤◌, Bool, true, false, not, ◌||◌, ◌↔◌, List, [], ◌∷◌, ◌++◌, length, Some, None, filter, Option, refl, ap, ◌∙◌, subst, ap₂, inl, inr, arith}
 use lib.ListN.{length-map}
-use Rattle.std.specs.List.{AllByRecursion as All, slice_get}
+use Rattle.std.specs.List.{AllByRecursion, slice_get}
 use Rattle.std.proofs.lemmas.Bool.{both_ways, cases_Bool, not-true}
 use Rattle.events.specs.declared.name.Name.{Name}
 use Rattle.events.specs.declared.character.Character.{Character}
@@ -67,7 +67,7 @@ nth_past (x ∷ xs) zero l = absurd (omega arith)
 nth_past (x ∷ xs) (suc k) l = nth_past xs k (omega arith)
 
 -- the front of a sequence, up to a name that it does not have
-front_of : (a b : List Node) (n : Node) → All (λ m. same m.name n.name ≡ false) a → in_front_of n.name (a ++ n ∷ b) ≡ a
+front_of : (a b : List Node) (n : Node) → AllByRecursion (λ m. same m.name n.name ≡ false) a → in_front_of n.name (a ++ n ∷ b) ≡ a
 front_of [] b n h = rw (same_own n.name)
 front_of (m ∷ a) b n h = rw h.0 (ap (λ z. m ∷ z) (front_of a b n h.1))
 
@@ -82,7 +82,7 @@ module _ (before : Name → Name → Bool) (o : Ordered before) (ps : List Place
   s_apart = sequence_apart before o (nodes ps) g
 
   -- no node of the sequence has the new name
-  not_new : (l r : List Node) → s ≡ l ++ r → All (λ m. same m.name x ≡ false) l
+  not_new : (l r : List Node) → s ≡ l ++ r → AllByRecursion (λ m. same m.name x ≡ false) l
   not_new l r e = all_members _ l (λ m i. same_not m.name x (λ q.
       both_ways _ f (rw q at (node_in (nodes ps) m ((members before o (nodes ps) g m).0 (rw e (in_left l r m i)))))))
 

@@ -1,6 +1,6 @@
 -- What makes a log admissible, and the order in which it is archived.
-use Rattle.std.specs.Prelude.{◌≢◌}
-use Rattle.fugue.specs.Vocabulary.{◌≤◌, ◌≡◌, Bool, true, false, List, [], ◌∷◌, length, All, Name, NamedEvent}
+use Rattle.std.specs.Prelude.{◌≢◌, ◌≤◌, ◌≡◌, ◌∷◌}
+use Rattle.fugue.specs.Vocabulary.{Bool, true, false, List, [], length, AllByRecursion, Name, NamedEvent}
 use Rattle.fugue.specs.Names.{has, ◌∈◌, Rising}
 use Rattle.fugue.specs.Logs.{NewestFirst, names, Behind}
 use Rattle.fugue.specs.Placements.{beyond, placementIn}
@@ -8,7 +8,7 @@ use Rattle.fugue.specs.Placements.{beyond, placementIn}
 -- The log may go on with the event: a new name; parents that are held, at most four, none twice, none behind another; no position beyond.
 pub record Admits (before : Name → Name → Bool) (log : NewestFirst) (e : NamedEvent) : Type 0 where
   pub fresh : has (names log) e.name ≡ false
-  pub held : All (λ p. has (names log) p ≡ true) e.parents
+  pub held : AllByRecursion (λ p. has (names log) p ≡ true) e.parents
   pub few : length e.parents ≤ 4
   pub once : Rising (λ p q. p ≢ q) e.parents
   pub apart : (p q : Name) → p ∈ e.parents → q ∈ e.parents → Behind log p q → ⊥
@@ -23,7 +23,7 @@ Admissible before (e ∷ older) = Admits before older e × Admissible before old
 pub record Ready (written : List Name) (log : NewestFirst) (e : NamedEvent) : Type 0 where
   pub held : e ∈ log
   pub unwritten : has written e.name ≡ false
-  pub after : All (λ p. has written p ≡ true) e.parents
+  pub after : AllByRecursion (λ p. has written p ≡ true) e.parents
 
 -- of the ready events the one whose name comes first
 pub record Next (before : Name → Name → Bool) (written : List Name) (log : NewestFirst) (e : NamedEvent) : Type 0 where
@@ -32,7 +32,7 @@ pub record Next (before : Name → Name → Bool) (written : List Name) (log : N
 
 -- the next event, again and again, until all are written
 abbrev pub WrittenFrom : (Name → Name → Bool) → List Name → NewestFirst → List NamedEvent → Type 0
-WrittenFrom before written log [] = All (λ e. has written e.name ≡ true) log
+WrittenFrom before written log [] = AllByRecursion (λ e. has written e.name ≡ true) log
 WrittenFrom before written log (e ∷ es) = Next before written log e × WrittenFrom before (e.name ∷ written) log es
 
 -- the events of the log in the order in which they are written from the first on

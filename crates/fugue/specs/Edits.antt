@@ -1,5 +1,6 @@
 -- The edit that a newly held event hands out, and what it does to a page.
-use Rattle.fugue.specs.Vocabulary.{ℕ, suc, ◌≤◌, ◌<◌, Bool, cond, not, List, [], ◌∷◌, ◌++◌, length, take, drop, kept_by, Name, Character, Deed, NamedEvent}
+use Rattle.std.specs.Prelude.{◌≤◌, ◌<◌, ◌∷◌, ◌++◌}
+use Rattle.fugue.specs.Vocabulary.{ℕ, suc, Bool, cond, not, List, [], length, take, drop, kept_by, Name, Character, Deed, NamedEvent}
 use Rattle.events.specs.declared.deed.Deed.TheVariants as deed
 use Rattle.fugue.specs.declared.edit.Edit.{Edit}
 use Rattle.fugue.specs.declared.edit.Edit.TheVariants.{Insert, Delete, Nothing}

@@ -1,11 +1,11 @@
 -- Small logs, what they read and which edits they hand out.
-use Rattle.std.specs.Prelude.{◌%◌, ◌^◌, codes, refl}
+use Rattle.std.specs.Prelude.{◌%◌, ◌^◌, codes, refl, ◌≡◌, ◌∷◌}
 use Rattle.std.proofs.Common.{mod-lt, lit<}
 use Rattle.events.specs.declared.deed.Deed.TheVariants as deed
 use Rattle.events.specs.Scalar.{is_scalar}
 use Rattle.events.specs.Orders.{author_first, number_first}
 use Rattle.fugue.specs.declared.edit.Edit.TheVariants.{Insert, Nothing}
-use Rattle.fugue.specs.Vocabulary.{ℕ, ◌≡◌, true, List, [], ◌∷◌, map, Name, Character, Position, Deed, NamedEvent}
+use Rattle.fugue.specs.Vocabulary.{ℕ, true, List, [], map, Name, Character, Position, Deed, NamedEvent}
 use Rattle.fugue.specs.Logs.{NewestFirst}
 use Rattle.fugue.specs.Placements.{beyond, placementIn, textAt, text}
 use Rattle.fugue.specs.Edits.{edit}

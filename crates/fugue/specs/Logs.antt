@@ -5,7 +5,8 @@
 --     Distinct, ParentsHeld   no two events have one name; every parent is an older event
 --     SameEvents a b      two logs hold the same events, in whatever order
 --     log_of, numbered     from a store's events, parents by number, to a log, and back
-use Rattle.fugue.specs.Vocabulary.{ℕ, zero, suc, ◌≡◌, true, false, cond, ◌⊎◌, List, [], ◌∷◌, ◌++◌, map, reverse, All, joined, Name, NamedEvent, StoredEvent, SameEvent}
+use Rattle.std.specs.Prelude.{◌≡◌, ◌⊎◌, ◌∷◌, ◌++◌}
+use Rattle.fugue.specs.Vocabulary.{ℕ, zero, suc, true, false, cond, List, [], map, reverse, AllByRecursion, joined, Name, NamedEvent, StoredEvent, SameEvent}
 use Rattle.fugue.specs.Names.{has, ◌∈◌}
 
 abbrev pub NewestFirst : Type 0
@@ -38,7 +39,7 @@ Distinct (e ∷ older) = (has (names older) e.name ≡ false) × Distinct older
 
 abbrev pub ParentsHeld : NewestFirst → Type 0
 ParentsHeld [] = Unit {0}
-ParentsHeld (e ∷ older) = All (λ p. has (names older) p ≡ true) e.parents × ParentsHeld older
+ParentsHeld (e ∷ older) = AllByRecursion (λ p. has (names older) p ≡ true) e.parents × ParentsHeld older
 
 -- each event of a has a same event in b: name, deed and set of parents
 abbrev pub Within : NewestFirst → NewestFirst → Type 0

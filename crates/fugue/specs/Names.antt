@@ -1,6 +1,6 @@
 -- Names, sibling orders, and members of lists.
-use Rattle.std.specs.Prelude.{◌≢◌}
-use Rattle.fugue.specs.Vocabulary.{◌≡◌, Bool, true, false, not, ◌&&◌, ◌||◌, ◌⊎◌, List, [], ◌∷◌, eqb, All, Name}
+use Rattle.std.specs.Prelude.{◌≢◌, ◌≡◌, ◌&&◌, ◌||◌, ◌⊎◌, ◌∷◌}
+use Rattle.fugue.specs.Vocabulary.{Bool, true, false, not, List, [], eqb, AllByRecursion, Name}
 
 -- the two names are one
 abbrev pub same : Name → Name → Bool
@@ -26,4 +26,4 @@ x ∈ (y ∷ ys) = (x ≡ y) ⊎ x ∈ ys
 -- each element is in the relation R to all that come later
 abbrev pub Rising : {X : Type 0} → (X → X → Type 0) → List X → Type 0
 Rising R [] = Unit {0}
-Rising R (x ∷ xs) = All (R x) xs × Rising R xs
+Rising R (x ∷ xs) = AllByRecursion (R x) xs × Rising R xs

@@ -1,5 +1,6 @@
 -- Paths from the root to the nodes, and the order that they give.
-use Rattle.fugue.specs.Vocabulary.{Bool, true, false, cond, not, ◌&&◌, ◌||◌, List, [], ◌∷◌, ◌++◌, Name}
+use Rattle.std.specs.Prelude.{◌&&◌, ◌||◌, ◌∷◌, ◌++◌}
+use Rattle.fugue.specs.Vocabulary.{Bool, true, false, cond, not, List, [], Name}
 use Rattle.fugue.specs.Names.{same}
 use Rattle.fugue.specs.Tree.{Attachment, root, left_of, rightOf, Tree}
 

@@ -7,7 +7,8 @@
 --     placements, seen     of all events of a log, newest first; of those of a version
 --     placementIn          of an event that is new to a log
 --     treeAt, textAt       tree and text of a version; tree and text: of all events held
-use Rattle.fugue.specs.Vocabulary.{ℕ, zero, suc, Bool, cond, not, List, [], ◌∷◌, map, nth, Option, Some, mapped, valueOr, kept_by, joined, Name, Character, Deed, NamedEvent}
+use Rattle.std.specs.Prelude.{◌∷◌}
+use Rattle.fugue.specs.Vocabulary.{ℕ, zero, suc, Bool, cond, not, List, [], map, nth, Option, Some, mapped, valueOr, kept_by, joined, Name, Character, Deed, NamedEvent}
 use Rattle.events.specs.declared.deed.Deed.TheVariants.{Insert, Delete}
 use Rattle.fugue.specs.Names.{same, has}
 use Rattle.fugue.specs.Logs.{NewestFirst, version}

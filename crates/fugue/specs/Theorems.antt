@@ -1,6 +1,6 @@
 -- What is proved of versions, trees, texts, edits and archive order, under every sibling order.
-use Rattle.std.specs.Prelude.{◌≢◌}
-use Rattle.fugue.specs.Vocabulary.{ℕ, ◌≤◌, ◌<◌, ◌≡◌, Bool, true, false, not, ◌⊎◌, ◌↔◌, List, [], ◌∷◌, ◌++◌, reverse, length, nth, Some, All, Each, kept_by, Name, Character, Position, Deed, NamedEvent, StoredEvent, SameEvent}
+use Rattle.std.specs.Prelude.{◌≢◌, ◌≤◌, ◌<◌, ◌≡◌, ◌⊎◌, ◌↔◌, ◌∷◌, ◌++◌}
+use Rattle.fugue.specs.Vocabulary.{ℕ, Bool, true, false, not, List, [], reverse, length, nth, Some, AllByRecursion, Each, kept_by, Name, Character, Position, Deed, NamedEvent, StoredEvent, SameEvent}
 use Rattle.events.specs.declared.deed.Deed.TheVariants.{Insert, Delete}
 use Rattle.fugue.specs.declared.edit.Edit.{Edit}
 use Rattle.fugue.specs.declared.edit.Edit.TheVariants as edit
@@ -63,7 +63,7 @@ pub record NewNode (before : Name → Name → Bool) (log : NewestFirst) (e : Na
       ≡ kept_by (λ m. precedes before (tree before (e ∷ log)) m.name e.name) (sequence before (tree before log))
       ++ node ∷ kept_by (λ m. not (precedes before (tree before (e ∷ log)) m.name e.name)) (sequence before (tree before log))
   -- which of its parents' version are exactly those that do not follow the left origin
-  pub among : All (λ m. precedes before (tree before (e ∷ log)) m.name e.name
+  pub among : AllByRecursion (λ m. precedes before (tree before (e ∷ log)) m.name e.name
       ≡ not (has (node_names (following o (sequence before (treeAt before log e.parents)))) m.name)) (sequence before (treeAt before log e.parents))
 
 -- A new node goes after exactly the nodes that precede it; of its parents' version these are exactly those up to its left origin.
@@ -116,7 +116,7 @@ pub record Archived (before : Name → Name → Bool) (log : NewestFirst) (es : 
   pub after : ParentsHeld (reverse es)
   pub admissible : Admissible before log → Admissible before (reverse es)
   -- numbered by it, parents have rising numbers below the event's own; the log is admissible again and has the same events
-  pub below : (i : ℕ) (e : StoredEvent) → nth (numbered es) i ≡ Some e → All (λ p. p < i) e.parents × Rising (λ p q. p < q) e.parents
+  pub below : (i : ℕ) (e : StoredEvent) → nth (numbered es) i ≡ Some e → AllByRecursion (λ p. p < i) e.parents × Rising (λ p q. p < q) e.parents
   pub same : SameEvents (log_of (numbered es)) log
   pub again : Admissible before log → Admissible before (log_of (numbered es))
 

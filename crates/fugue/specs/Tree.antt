@@ -6,7 +6,8 @@
 --     has_node t x              the tree has a node of that name
 --     Grown                    a tree that grew node by node
 --     ClosedPart p t           a part of a tree that has what its nodes are attached to
-use Rattle.fugue.specs.Vocabulary.{ℕ, zero, suc, ◌≡◌, Bool, true, false, cond, ◌↔◌, List, [], ◌∷◌, ◌++◌, map, length, kept_by, joined, All, Name, Character}
+use Rattle.std.specs.Prelude.{◌≡◌, ◌↔◌, ◌∷◌, ◌++◌}
+use Rattle.fugue.specs.Vocabulary.{ℕ, zero, suc, Bool, true, false, cond, List, [], map, length, kept_by, joined, AllByRecursion, Name, Character}
 use Rattle.fugue.specs.Names.{same, has, ◌∈◌, Rising}
 
 -- under the root, or on one side of a node
@@ -100,4 +101,4 @@ Grown (n ∷ older) = (has (node_names older) n.name ≡ false) × AttachedTo (h
 
 -- where a node is in the part, so is what it is attached to
 abbrev pub ClosedPart : (Name → Bool) → Tree → Type 0
-ClosedPart p t = All (λ n. p n.name ≡ true → AttachedTo p n.attachment) t
+ClosedPart p t = AllByRecursion (λ n. p n.name ≡ true → AttachedTo p n.attachment) t

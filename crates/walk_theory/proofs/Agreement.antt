@@ -1,7 +1,6 @@
 -- A new event in two trees that grow alike.
-use Rattle.std.proofs.Common.{◌≡◌, ℕ, Bool, true, false, not, ◌&&◌, ◌⊎◌, List, [], ◌∷◌, sym, refl, ap, ◌∙◌, subst, ap₂, subst₂, inl, inr}
-use Rattle.std.specs.List.{AllByRecursion as All}
-use Rattle.std.proofs.lemmas.Bool.{both_ways, cases_Bool, and_parts, and_from}
+use Rattle.std.proofs.Common.{◌≡◌, Bool, true, false, not, ◌&&◌, List, [], ◌∷◌, sym, ap, ◌∙◌, subst₂, inl, inr}
+use Rattle.std.proofs.lemmas.Bool.{both_ways, cases_Bool, and_parts}
 use Rattle.std.proofs.ByRecursion.{All-weaker}
 use Rattle.events.specs.declared.name.Name.{Name}
 use Rattle.events.specs.declared.character.Character.{Character}
@@ -13,7 +12,7 @@ use Rattle.fugue.proofs.Grown.{attached_like, has_only}
 use Rattle.fugue.proofs.Names.{same_name, same_own}
 use Rattle.walk_theory.specs.Origins.{Origin, new_node}
 use Rattle.walk_theory.specs.Tops.{beside_owner}
-use Rattle.walk_theory.specs.Bases.{home_in, attached_over, node_over, grown_over, OnLater, LaterNodes, Agrees}
+use Rattle.walk_theory.specs.Bases.{home_in, attached_over, grown_over, OnLater, LaterNodes, Agrees}
 use Rattle.walk_theory.specs.Agreement.{OneHome, GrewAlike}
 use Rattle.walk_theory.proofs.Search.{origin_like}
 use Rattle.walk_theory.proofs.Over.{either, home_attached, named_late, named_base, named_cases, late_new, spot_of}

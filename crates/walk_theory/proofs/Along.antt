@@ -1,8 +1,8 @@
 -- Induction along a grown tree, from what a node hangs on to the node.
-use Rattle.std.proofs.Common.{◌≡◌, Bool, true, false, ◌⊎◌, List, [], ◌∷◌, sym, refl, subst, inl, inr}
-use Rattle.std.specs.List.{AllByRecursion as All}
+use Rattle.std.proofs.Common.{◌≡◌, true, [], ◌∷◌, refl, subst, inl, inr}
+use Rattle.std.specs.List.{AllByRecursion}
 use Rattle.events.specs.declared.name.Name.{Name}
-use Rattle.fugue.specs.Names.{same, ◌∈◌}
+use Rattle.fugue.specs.Names.{◌∈◌}
 use Rattle.fugue.specs.Tree.{Attachment, root, left_of, rightOf, Node, Tree, AttachedTo, has_node, Grown}
 use Rattle.fugue.proofs.Grown.{node_of_lem}
 use Rattle.fugue.proofs.Lists.{all_member}
@@ -13,16 +13,16 @@ Hangs P (left_of y) = P y
 Hangs P (rightOf y) = P y
 
 module _ (P : Name → Type 0) where
-  from_all : (t : Tree) → All (λ n. P n.name) t → (y : Name) → has_node t y ≡ true → P y
+  from_all : (t : Tree) → AllByRecursion (λ n. P n.name) t → (y : Name) → has_node t y ≡ true → P y
   from_all t a y h = let r = node_of_lem t y h in subst P r.2 (all_member _ t r.0 a r.1)
 
-  hangs_all : (t : Tree) → All (λ n. P n.name) t → (q : Attachment) → AttachedTo (has_node t) q → Hangs P q
+  hangs_all : (t : Tree) → AllByRecursion (λ n. P n.name) t → (q : Attachment) → AttachedTo (has_node t) q → Hangs P q
   hangs_all t a root h = tt
   hangs_all t a (left_of y) h = from_all t a y h
   hangs_all t a (rightOf y) h = from_all t a y h
 
   module _ (t : Tree) (step : (n : Node) → n ∈ t → Hangs P n.attachment → P n.name) where
-    each : (older : Tree) → Grown older → ((n : Node) → n ∈ older → n ∈ t) → All (λ n. P n.name) older
+    each : (older : Tree) → Grown older → ((n : Node) → n ∈ older → n ∈ t) → AllByRecursion (λ n. P n.name) older
     each [] g sub = tt
     each (n ∷ older) g sub =
         let a = each older g.2 (λ m i. sub m (inr i)) in

@@ -1,8 +1,8 @@
 -- Two trees that grow alike over two bases.
-use Rattle.std.proofs.Common.{◌≡◌, ℕ, Bool, true, false, cond, not, ◌||◌, ◌⊎◌, ◌↔◌, List, [], ◌∷◌, ◌++◌, map, Some, None, Option, sym, refl, ap, ◌∙◌, subst, ap₂, inl, inr, arith}
-use Rattle.std.specs.List.{AllByRecursion as All}
+use Rattle.std.proofs.Common.{◌≡◌, Bool, true, false, cond, not, List, [], ◌∷◌, map, Some, None, Option, sym, refl, ap, ◌∙◌, subst, ap₂, inl, inr}
+use Rattle.std.specs.List.{AllByRecursion}
 use Rattle.std.proofs.lemmas.Bool.{both_ways, cases_Bool, or_cases, or_left, or_right}
-use Rattle.std.proofs.ByRecursion.{All-weaker, all_kept_by}
+use Rattle.std.proofs.ByRecursion.{All-weaker}
 use Rattle.events.specs.declared.name.Name.{Name}
 use Rattle.fugue.specs.Names.{same, Ordered, ◌∈◌, Rising}
 use Rattle.fugue.specs.Paths.{path, path_before}
@@ -13,15 +13,15 @@ use Rattle.fugue.proofs.Names.{same_name, same_own, attachment_is, attachment_re
 use Rattle.fugue.proofs.Paths.{path_transitive, by_paths, members}
 use Rattle.walk_theory.specs.Tops.{by_owner, topAt, beside_owner, comes_before}
 use Rattle.walk_theory.specs.Bases.{home_in, attached_over, node_over, grown_over, OnLater, LaterNodes, node_names, Agrees}
-use Rattle.walk_theory.proofs.Tops.{TopStep, tops}
-use Rattle.walk_theory.proofs.Over.{never, not_both, either, home_attached, Spot, named_late, named_base, named_cases, late_new, spot_of, grown_over_lem, base_none, attached_same, path_older, new_name, judged}
+use Rattle.walk_theory.proofs.Tops.{tops}
+use Rattle.walk_theory.proofs.Over.{never, not_both, either, home_attached, named_late, named_base, named_cases, late_new, spot_of, grown_over_lem, base_none, attached_same, path_older, new_name, judged}
 
 module _ {X : Type 0} where
   pub rising_both : (R S : X → X → Type 0) (l : List X) → Rising R l → Rising S l → Rising (λ x y. R x y × S x y) l
   rising_both R S [] a c = tt
   rising_both R S (x ∷ l) a c = (all_both (R x) (S x) l a.0 c.0, rising_both R S l a.1 c.1)
 
-  pub rising_in : (P : X → Type 0) (R S : X → X → Type 0) → ((x y : X) → P x → P y → R x y → S x y) → (l : List X) → All P l → Rising R l → Rising S l
+  pub rising_in : (P : X → Type 0) (R S : X → X → Type 0) → ((x y : X) → P x → P y → R x y → S x y) → (l : List X) → AllByRecursion P l → Rising R l → Rising S l
   rising_in P R S h [] a r = tt
   rising_in P R S h (x ∷ l) a r = (All-weaker _ _ (λ y k. h x y a.0 k.0 k.1) l (all_both P (R x) l a.1 r.0), rising_in P R S h l a.1 r.1)
 
@@ -35,7 +35,7 @@ module _ {X : Type 0} where
   from_map f (z ∷ l) y (inl e) = (z, inl refl, sym e)
   from_map f (z ∷ l) y (inr i) = let r = from_map f l y i in (r.0, inr r.1, r.2)
 
-  all_onto : {Y : Type 0} (f : X → Y) (P : Y → Type 0) (l : List X) → All (λ x. P (f x)) l → All P (map f l)
+  all_onto : {Y : Type 0} (f : X → Y) (P : Y → Type 0) (l : List X) → AllByRecursion (λ x. P (f x)) l → AllByRecursion P (map f l)
   all_onto f P [] a = tt
   all_onto f P (x ∷ l) a = (a.0, all_onto f P l a.1)
 

@@ -1,17 +1,16 @@
 -- What top_follows a left origin that has something on its right climbs to it.
-use Rattle.std.proofs.Common.{◌≡◌, Bool, true, false, cond, ◌||◌, ◌⊎◌, ◌↔◌, List, [], ◌∷◌, ◌++◌, sym, refl, ap, ◌∙◌, subst, inl, inr}
-use Rattle.std.specs.List.{AllByRecursion as All}
+use Rattle.std.proofs.Common.{◌≡◌, Bool, true, false, cond, ◌||◌, List, [], ◌∷◌, ◌++◌, sym, refl, ap, ◌∙◌, subst, inl}
+use Rattle.std.specs.List.{AllByRecursion}
 use Rattle.std.proofs.lemmas.Bool.{both_ways}
-use Rattle.std.proofs.ByRecursion.{All-weaker}
 use Rattle.events.specs.declared.name.Name.{Name}
 use Rattle.fugue.specs.Names.{same, Ordered, ◌∈◌}
 use Rattle.fugue.specs.Placements.{after}
-use Rattle.fugue.specs.Tree.{Attachment, root, left_of, rightOf, Node, Tree, sequence, has_node, Grown, Children, InSequence, none, next}
+use Rattle.fugue.specs.Tree.{Attachment, left_of, rightOf, Node, Tree, has_node, InSequence, none, next}
 use Rattle.fugue.proofs.Beside.{after_append}
 use Rattle.fugue.proofs.Grown.{has_node_append}
-use Rattle.fugue.proofs.Lists.{all_member, all_members}
+use Rattle.fugue.proofs.Lists.{all_members}
 use Rattle.fugue.proofs.Names.{same_name}
-use Rattle.fugue.proofs.Sequences.{one_sequence, sequence_right}
+use Rattle.fugue.proofs.Sequences.{one_sequence}
 
 -- from a place by places on the left to the place q
 pub data Climbs (t : Tree) (q : Attachment) : Attachment → Type 0 where
@@ -29,7 +28,7 @@ module _ (before : Name → Name → Bool) (o : Ordered before) (t : Tree) where
   begins_append : (q : Attachment) (s r : List Node) → Begins q s → Begins q (s ++ r)
   begins_append q s r a = (a.0, a.1 ++ r, ap (λ z. z ++ r) a.2, a.3)
 
-  pub begins : {ks s : List Node} → InSequence before t ks s → (q : Attachment) → All (λ k. (k ∈ t) × (k.attachment ≡ q)) ks → (k : Node) → k ∈ ks → Begins q s
+  pub begins : {ks s : List Node} → InSequence before t ks s → (q : Attachment) → AllByRecursion (λ k. (k ∈ t) × (k.attachment ≡ q)) ks → (k : Node) → k ∈ ks → Begins q s
   begins none q a k i = elim i [ ]
   begins (next {n = n} {ls = []} {s = s} {l = l} {r = r} kl vl kr vr vs) q a k i =
       begins_append q (l ++ n ∷ r) s (n, r, ap (λ z. z ++ n ∷ r) (one_sequence before o t vl none), subst (λ z. Climbs t q z) (sym a.0.1) here)

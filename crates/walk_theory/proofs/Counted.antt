@@ -1,6 +1,6 @@
 -- How many characters of the text are in front of a node, counted in the list.
 use Rattle.std.proofs.Common.{◌≡◌, ℕ, suc, Bool, true, false, cond, not, ◌||◌, List, [], ◌∷◌, ◌++◌, length, sym, refl, ap, ◌∙◌, inl, inr, arith}
-use Rattle.std.specs.List.{AllByRecursion as All}
+use Rattle.std.specs.List.{AllByRecursion}
 use Rattle.std.proofs.lemmas.Bool.{cases_Bool}
 use Rattle.events.specs.declared.name.Name.{Name}
 use Rattle.events.specs.Parts.{NamedEvent}
@@ -45,7 +45,7 @@ pub counted : (keep : Name → Bool) (x : Name) → keep x ≡ true → (s l : L
     → length (only keep (in_front_of x s)) ≡ length (only keep (in_front_of x l))
 counted keep x k s l e = ap length (sym (front_only keep x k s)) ∙ front_long x (only keep s) (only keep l) e ∙ ap length (front_only keep x k l)
 
-front_put : (a b : List Node) (n : Node) → All (λ m. same m.name n.name ≡ false) a → same n.name n.name ≡ true → in_front_of n.name (a ++ n ∷ b) ≡ a
+front_put : (a b : List Node) (n : Node) → AllByRecursion (λ m. same m.name n.name ≡ false) a → same n.name n.name ≡ true → in_front_of n.name (a ++ n ∷ b) ≡ a
 front_put [] b n u q = rw q
 front_put (m ∷ a) b n u q = rw u.0 (ap (λ l. m ∷ l) (front_put a b n u.1 q))
 
@@ -90,7 +90,7 @@ module _ (before : Name → Name → Bool) (o : Ordered before) (log closed : Ne
 
       -- an insert counts what is in the text in front of its place
       pub insert_edit : n.name ≡ e.name → (later a b : List Node) (m : Node) → m.name ≡ e.name → Holds before (e ∷ log) closed small later (a ++ m ∷ b)
-          → All (λ k. same k.name m.name ≡ false) a → edit before log e ≡ Insert (length (only keep a))
+          → AllByRecursion (λ k. same k.name m.name ≡ false) a → edit before log e ≡ Insert (length (only keep a))
       insert_edit q later a b m r h f =
           let k : keep n.name ≡ true = ap not (ap (struck (placements before log)) q ∙ fresh_struck before e log u.0) in
           let c = counted keep n.name k (sequence before (n ∷ tree before log)) (a ++ m ∷ b) (new_names later (a ++ m ∷ b) h) in

@@ -1,21 +1,21 @@
 -- The home by a count of what hangs at a place, and the place where nothing hangs at the home.
-use Rattle.std.proofs.Common.{◌≡◌, ℕ, zero, suc, ◌+◌, ◌-◌, ◌<◌, ◌≤◌, Bool, true, false, cond, not, ◌&&◌, ◌⊎◌, ◌↔◌, List, [], ◌∷◌, ◌++◌, reverse, length, Some, None, filter, Option, sym, refl, ap, ◌∙◌, subst, ap₂, inl, inr, arith}
-use Rattle.std.specs.List.{prefix_len, suffix_len, AllByRecursion as All}
-use Rattle.std.proofs.lemmas.Bool.{both_ways, cases_Bool, and_parts, and_from}
+use Rattle.std.proofs.Common.{◌≡◌, ℕ, zero, suc, ◌+◌, ◌≤◌, Bool, true, false, ◌&&◌, List, [], ◌∷◌, reverse, length, Some, None, filter, Option, sym, refl, ap, ◌∙◌, subst, inl, inr, arith}
+use Rattle.std.specs.List.{AllByRecursion}
+use Rattle.std.proofs.lemmas.Bool.{cases_Bool, and_parts, and_from}
 use Rattle.std.proofs.ByRecursion.{All-weaker}
 use Rattle.events.specs.declared.name.Name.{Name}
 use Rattle.events.specs.declared.character.Character.{Character}
-use Rattle.fugue.specs.Names.{same, Ordered, ◌∈◌, Rising}
+use Rattle.fugue.specs.Names.{Ordered, ◌∈◌}
 use Rattle.fugue.specs.Placements.{attached_by}
-use Rattle.fugue.specs.Tree.{Attachment, root, left_of, rightOf, same_attachment, Node, Tree, children, sequence, only, ClosedPart, has_node, Grown, Children}
-use Rattle.fugue.proofs.Grown.{has_own, age, age_below, grown_only}
-use Rattle.fugue.proofs.Lists.{all_member, all_members, kept_member, member_kept}
+use Rattle.fugue.specs.Tree.{Attachment, root, left_of, rightOf, same_attachment, Node, Tree, children, sequence, only, ClosedPart, has_node, Grown}
+use Rattle.fugue.proofs.Grown.{age_below, grown_only}
+use Rattle.fugue.proofs.Lists.{kept_member, member_kept}
 use Rattle.fugue.proofs.Names.{attachment_is, attachment_refl}
 use Rattle.fugue.proofs.Paths.{members}
 use Rattle.fugue.proofs.Sequences.{children_are}
 use Rattle.walk_theory.specs.Origins.{Origin, behind, front}
 use Rattle.walk_theory.specs.Tops.{topAt}
-use Rattle.walk_theory.specs.Search.{until, climb, topOutside, top_precedes, top_follows, home, run, up, down, among, place_for, Found}
+use Rattle.walk_theory.specs.Search.{until, climb, topOutside, top_precedes, top_follows, home, up, down, among}
 use Rattle.walk_theory.specs.Counts.{hung, all, home_by_count, where_free, Quickly}
 use Rattle.walk_theory.proofs.Tops.{found}
 use Rattle.walk_theory.proofs.Cuts.{leading_none, all_reverse}
@@ -80,7 +80,7 @@ module _ (before : Name → Name → Bool) (o : Ordered before) (t : Tree) (g : 
       go None k = k
       go (Some z) k = let r = found t g h y n z k in absurd (free_of r.0 r.1 r.3)
 
-  run_named : All (λ n. has_node t n.name ≡ true) (until v (behind p s))
+  run_named : AllByRecursion (λ n. has_node t n.name ≡ true) (until v (behind p s))
   run_named = all_mid before o t g v cl p q x fx d deep _ (named_behind before o t g v cl p q x fx d deep)
 
   up_none : hung all p s ≡ 0 → up before d s v p x ≡ 0

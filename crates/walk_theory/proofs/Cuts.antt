@@ -1,20 +1,20 @@
 -- ListsTheSequence that are cut where a test turns.
-use Rattle.std.proofs.Common.{◌≡◌, ℕ, zero, suc, ◌+◌, ◌-◌, Bool, true, false, cond, not, ◌⊎◌, List, [], ◌∷◌, ◌++◌, reverse, length, take, drop, filter, sym, refl, ap, ◌∙◌, subst, ap₂, inl, inr, arith, length-append}
+use Rattle.std.proofs.Common.{◌≡◌, ◌+◌, ◌-◌, Bool, true, false, not, List, [], ◌∷◌, ◌++◌, reverse, length, take, drop, filter, sym, refl, ap, ◌∙◌, subst, ap₂, inl, inr, arith, length-append}
 use mathlib.Core.List.{reverse-append}
 use lib.ListN.{length-reverse}
-use Rattle.std.specs.List.{prefix_len, suffix_len, AllByRecursion as All}
+use Rattle.std.specs.List.{prefix_len, suffix_len, AllByRecursion}
 use Rattle.std.proofs.lemmas.Bool.{both_ways, cases_Bool}
 use Rattle.std.proofs.lemmas.List.Elements.{filter-append}
 use Rattle.std.proofs.ByRecursion.{All-weaker, All-append}
 use Rattle.fugue.specs.Names.{◌∈◌, Rising}
-use Rattle.fugue.proofs.Lists.{all_both, all_member, all_members, kept_nothing, kept_whole, in_left, in_right}
+use Rattle.fugue.proofs.Lists.{all_both, all_member, kept_nothing, kept_whole}
 
 module _ {X : Type 0} where
-  pub all_left : (P : X → Type 0) (ls bs : List X) → All P (ls ++ bs) → All P ls
+  pub all_left : (P : X → Type 0) (ls bs : List X) → AllByRecursion P (ls ++ bs) → AllByRecursion P ls
   all_left P [] bs h = tt
   all_left P (a ∷ ls) bs h = (h.0, all_left P ls bs h.1)
 
-  pub all_right : (P : X → Type 0) (ls bs : List X) → All P (ls ++ bs) → All P bs
+  pub all_right : (P : X → Type 0) (ls bs : List X) → AllByRecursion P (ls ++ bs) → AllByRecursion P bs
   all_right P [] bs h = h
   all_right P (a ∷ ls) bs h = all_right P ls bs h.1
 
@@ -41,16 +41,16 @@ module _ {X : Type 0} where
       pub low : List X
       pub high : List X
       pub is : l ≡ low ++ high
-      pub lows : All (λ n. B n ≡ true) low
-      pub highs : All (λ n. B n ≡ false) high
+      pub lows : AllByRecursion (λ n. B n ≡ true) low
+      pub highs : AllByRecursion (λ n. B n ≡ false) high
 
     not_after : (m n : X) → (B n ≡ true → B m ≡ true) → B m ≡ false → B n ≡ false
     not_after m n h e = elim (cases_Bool (B n)) [ inl f ↦ absurd (both_ways _ e (h f)) | inr f ↦ f ]
 
-    pub all_high : (n : X) (l : List X) → Falls (n ∷ l) → B n ≡ false → All (λ m. B m ≡ false) (n ∷ l)
+    pub all_high : (n : X) (l : List X) → Falls (n ∷ l) → B n ≡ false → AllByRecursion (λ m. B m ≡ false) (n ∷ l)
     all_high n l h e = (e, All-weaker _ _ (λ m k. not_after n m k e) l h.0)
 
-    pub all_low : (us : List X) (n : X) (bs : List X) → Falls (us ++ n ∷ bs) → B n ≡ true → All (λ m. B m ≡ true) (us ++ n ∷ [])
+    pub all_low : (us : List X) (n : X) (bs : List X) → Falls (us ++ n ∷ bs) → B n ≡ true → AllByRecursion (λ m. B m ≡ true) (us ++ n ∷ [])
     all_low [] n bs h e = (e, tt)
     all_low (u ∷ us) n bs h e = ((all_right _ us (n ∷ bs) h.0).0 e, all_low us n bs h.1 e)
 
@@ -61,26 +61,26 @@ module _ {X : Type 0} where
       | inr e ↦ record { low = []; high = n ∷ l; is = refl; lows = tt; highs = all_high n l h e }
     ]
 
-    pub leading_front : (ls l : List X) → All (λ n. B n ≡ true) ls → prefix_len B (ls ++ l) ≡ length ls + prefix_len B l
+    pub leading_front : (ls l : List X) → AllByRecursion (λ n. B n ≡ true) ls → prefix_len B (ls ++ l) ≡ length ls + prefix_len B l
     leading_front [] l h = omega arith
     leading_front (a ∷ ls) l h = let ih = leading_front ls l h.1 in rw h.0 (omega (arith, ih))
 
-    pub leading_none : (bs : List X) → All (λ n. B n ≡ false) bs → prefix_len B bs ≡ 0
+    pub leading_none : (bs : List X) → AllByRecursion (λ n. B n ≡ false) bs → prefix_len B bs ≡ 0
     leading_none [] h = refl
     leading_none (b ∷ bs) h = rw h.0
 
-    pub leading_stop : (l bs : List X) → All (λ n. B n ≡ false) bs → prefix_len B (l ++ bs) ≡ prefix_len B l
+    pub leading_stop : (l bs : List X) → AllByRecursion (λ n. B n ≡ false) bs → prefix_len B (l ++ bs) ≡ prefix_len B l
     leading_stop [] bs h = leading_none bs h
     leading_stop (a ∷ l) bs h = let ih = leading_stop l bs h in rw ih
 
-    kept_parts : (ls bs : List X) → All (λ n. B n ≡ true) ls → All (λ n. B n ≡ false) bs → filter B (ls ++ bs) ≡ ls
+    kept_parts : (ls bs : List X) → AllByRecursion (λ n. B n ≡ true) ls → AllByRecursion (λ n. B n ≡ false) bs → filter B (ls ++ bs) ≡ ls
     kept_parts ls bs h k = filter-append B ls bs ∙ ap₂ ◌++◌ (kept_whole B ls h) (kept_nothing B bs k) ∙ append_nil ls
       where
         append_nil : (ls : List X) → ls ++ [] ≡ ls
         append_nil [] = refl
         append_nil (a ∷ ls) = ap (λ z. a ∷ z) (append_nil ls)
 
-    kept_rest : (ls bs : List X) → All (λ n. B n ≡ true) ls → All (λ n. B n ≡ false) bs → filter (λ n. not (B n)) (ls ++ bs) ≡ bs
+    kept_rest : (ls bs : List X) → AllByRecursion (λ n. B n ≡ true) ls → AllByRecursion (λ n. B n ≡ false) bs → filter (λ n. not (B n)) (ls ++ bs) ≡ bs
     kept_rest ls bs h k =
         filter-append (λ n. not (B n)) ls bs
         ∙ ap₂ ◌++◌ (kept_nothing (λ n. not (B n)) ls (All-weaker _ _ (λ n e. rw e) ls h)) (kept_whole (λ n. not (B n)) bs (All-weaker _ _ (λ n e. rw e) bs k))
@@ -103,36 +103,36 @@ module _ {X : Type 0} where
           kept_rest r.low r.high r.lows r.highs ∙ sym (drop_front r.low r.high),
         )
       where
-        full : (ls : List X) → All (λ n. B n ≡ true) ls → prefix_len B ls ≡ length ls
+        full : (ls : List X) → AllByRecursion (λ n. B n ≡ true) ls → prefix_len B ls ≡ length ls
         full [] h = refl
         full (a ∷ ls) h = let ih = full ls h.1 in rw h.0 (omega (arith, ih))
 
-  pub leading_like : (B K : X → Bool) (l : List X) → All (λ n. B n ≡ K n) l → prefix_len B l ≡ prefix_len K l
+  pub leading_like : (B K : X → Bool) (l : List X) → AllByRecursion (λ n. B n ≡ K n) l → prefix_len B l ≡ prefix_len K l
   leading_like B K [] h = refl
   leading_like B K (n ∷ l) h = let ih = leading_like B K l h.1 in rw (h.0, ih)
 
-  falls_one : (B K : X → Bool) (a : X) (l : List X) → B a ≡ K a → All (λ n. B n ≡ K n) l → All (λ n. B n ≡ true → B a ≡ true) l → All (λ n. K n ≡ true → K a ≡ true) l
+  falls_one : (B K : X → Bool) (a : X) (l : List X) → B a ≡ K a → AllByRecursion (λ n. B n ≡ K n) l → AllByRecursion (λ n. B n ≡ true → B a ≡ true) l → AllByRecursion (λ n. K n ≡ true → K a ≡ true) l
   falls_one B K a l e h f = All-weaker _ _ (λ n k t. sym e ∙ k.1 (k.0 ∙ t)) l (all_both _ _ l h f)
 
-  pub falls_like : (B K : X → Bool) (l : List X) → All (λ n. B n ≡ K n) l → Falls B l → Falls K l
+  pub falls_like : (B K : X → Bool) (l : List X) → AllByRecursion (λ n. B n ≡ K n) l → Falls B l → Falls K l
   falls_like B K [] h f = tt
   falls_like B K (a ∷ l) h f = (falls_one B K a l h.0 h.1 f.0, falls_like B K l h.1 f.1)
 
-  pub kept_alike : (p q : X → Bool) (l : List X) → All (λ n. p n ≡ q n) l → filter p l ≡ filter q l
+  pub kept_alike : (p q : X → Bool) (l : List X) → AllByRecursion (λ n. p n ≡ q n) l → filter p l ≡ filter q l
   kept_alike p q [] h = refl
   kept_alike p q (n ∷ l) h = let ih = kept_alike p q l h.1 in rw (h.0, ih)
 
-  pub all_reverse : (P : X → Type 0) (l : List X) → All P l → All P (reverse l)
+  pub all_reverse : (P : X → Type 0) (l : List X) → AllByRecursion P l → AllByRecursion P (reverse l)
   all_reverse P [] h = tt
-  all_reverse P (a ∷ l) h = subst (All P) (sym (reverse-append (a ∷ []) l)) (All-append P (reverse l) (a ∷ []) (all_reverse P l h.1) (h.0, tt))
+  all_reverse P (a ∷ l) h = subst (AllByRecursion P) (sym (reverse-append (a ∷ []) l)) (All-append P (reverse l) (a ∷ []) (all_reverse P l h.1) (h.0, tt))
 
   -- home_by_count from the end
-  pub from_end : (B K : X → Bool) (l : List X) → Falls B l → All (λ n. not (B n) ≡ K n) l → length l - suffix_len K l ≡ prefix_len B l
+  pub from_end : (B K : X → Bool) (l : List X) → Falls B l → AllByRecursion (λ n. not (B n) ≡ K n) l → length l - suffix_len K l ≡ prefix_len B l
   from_end B K l h k =
       let r = parted B l h in
-      let a : All (λ n. not (B n) ≡ K n) (r.low ++ r.high) = rw r.is at k in
-      let lo : All (λ n. K n ≡ false) r.low = All-weaker _ _ (λ n e. sym e.1 ∙ rw e.0) r.low (all_both _ _ r.low r.lows (all_left _ r.low r.high a)) in
-      let hi : All (λ n. K n ≡ true) r.high = All-weaker _ _ (λ n e. sym e.1 ∙ rw e.0) r.high (all_both _ _ r.high r.highs (all_right _ r.low r.high a)) in
+      let a : AllByRecursion (λ n. not (B n) ≡ K n) (r.low ++ r.high) = rw r.is at k in
+      let lo : AllByRecursion (λ n. K n ≡ false) r.low = All-weaker _ _ (λ n e. sym e.1 ∙ rw e.0) r.low (all_both _ _ r.low r.lows (all_left _ r.low r.high a)) in
+      let hi : AllByRecursion (λ n. K n ≡ true) r.high = All-weaker _ _ (λ n e. sym e.1 ∙ rw e.0) r.high (all_both _ _ r.high r.highs (all_right _ r.low r.high a)) in
       let e1 : suffix_len K (r.low ++ r.high) ≡ length r.high + 0
       = ap (prefix_len K) (reverse-append r.low r.high)
       ∙ leading_front K (reverse r.high) (reverse r.low) (all_reverse _ r.high hi)

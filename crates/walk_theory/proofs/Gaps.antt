@@ -1,15 +1,14 @@
 -- What top_follows a left origin, and a new node right behind it, by the attachment at its right.
-use Rattle.std.proofs.Common.{◌≡◌, Bool, true, false, List, [], ◌∷◌, ◌++◌}
+use Rattle.std.proofs.Common.{◌≡◌, Bool, true, false, [], ◌∷◌, ◌++◌}
 use Rattle.events.specs.declared.name.Name.{Name}
 use Rattle.events.specs.declared.character.Character.{Character}
 use Rattle.fugue.specs.Names.{Ordered, ◌∈◌}
-use Rattle.fugue.specs.Tree.{Attachment, root, left_of, rightOf, Node, Tree, children, sequence, has_node, Grown, Children}
-use Rattle.fugue.proofs.Lists.{all_member}
+use Rattle.fugue.specs.Tree.{Attachment, root, left_of, rightOf, Node, Tree, sequence, has_node, Grown, Children}
 use Rattle.fugue.proofs.Grown.{node_in, node_of_lem}
 use Rattle.fugue.proofs.Sequences.{sequence_right}
 use Rattle.fugue.proofs.Paths.{members}
-use Rattle.fugue.proofs.Beside.{Starts, starts, after_right, at_root, at_right, up_to_name}
-use Rattle.walk_theory.specs.Origins.{Origin, behind, up_to, front, new_node}
+use Rattle.fugue.proofs.Beside.{Starts, starts, after_right, at_root, at_right}
+use Rattle.walk_theory.specs.Origins.{Origin, behind, front, new_node}
 
 module _ (before : Name → Name → Bool) (o : Ordered before) (t : Tree) (g : Grown t) where
   pub in_sequence_lem : (y : Name) → has_node t y ≡ true → has_node (sequence before t) y ≡ true

@@ -1,24 +1,22 @@
 -- What a version gives for a left origin, in a tree that grows over a base.
-use Rattle.std.proofs.Common.{◌≡◌, ℕ, Bool, true, false, cond, not, ◌&&◌, ◌||◌, ◌⊎◌, ◌↔◌, List, [], ◌∷◌, ◌++◌, Some, None, Option, sym, refl, ap, ◌∙◌, subst, ap₂, inl, inr, arith}
-use Rattle.std.specs.List.{AllByRecursion as All}
-use Rattle.std.proofs.lemmas.Bool.{both_ways, cases_Bool, or_cases, or_left, or_right, and_parts, and_from}
-use Rattle.std.proofs.ByRecursion.{All-weaker}
+use Rattle.std.proofs.Common.{◌≡◌, Bool, true, false, not, ◌&&◌, ◌⊎◌, List, [], ◌∷◌, ◌++◌, None, sym, refl, ap, ◌∙◌, subst, ap₂, inl, inr}
+use Rattle.std.proofs.lemmas.Bool.{both_ways, cases_Bool, or_right, and_parts, and_from}
 use Rattle.events.specs.declared.name.Name.{Name}
 use Rattle.fugue.proofs.Grown.{inside}
-use Rattle.fugue.specs.Names.{same, Ordered, ◌∈◌, Rising}
+use Rattle.fugue.specs.Names.{same, Ordered, ◌∈◌}
 use Rattle.fugue.specs.Paths.{end, steps_to, steps, path, path_before}
-use Rattle.fugue.specs.Tree.{Attachment, root, left_of, rightOf, same_attachment, Node, Tree, sequence, AttachedTo, only, ClosedPart, has_node, Grown, Children}
+use Rattle.fugue.specs.Tree.{Attachment, root, left_of, rightOf, same_attachment, Node, Tree, sequence, only, ClosedPart, has_node, Grown}
 use Rattle.fugue.proofs.Grown.{has_own, grown_only, has_only, node_of_lem}
-use Rattle.fugue.proofs.Lists.{kept_like, all_member, all_members, kept_member, member_kept, all_both}
+use Rattle.fugue.proofs.Lists.{kept_like, all_member, all_members, kept_member, member_kept}
 use Rattle.fugue.proofs.Names.{same_name, same_own, attachment_is, attachment_refl}
 use Rattle.fugue.proofs.Nested.{sequence_part}
 use Rattle.fugue.proofs.Paths.{stepped, members}
-use Rattle.walk_theory.specs.Origins.{Origin, behind}
-use Rattle.walk_theory.specs.Tops.{by_owner, topAt, beside_owner, comes_before}
+use Rattle.walk_theory.specs.Origins.{Origin}
+use Rattle.walk_theory.specs.Tops.{topAt, beside_owner}
 use Rattle.walk_theory.specs.Bases.{home_in, attached_over, node_over, grown_over, OnLater, LaterNodes, node_names, Agrees}
 use Rattle.walk_theory.proofs.Tops.{found, beside as by_place}
 use Rattle.walk_theory.proofs.Search.{origin_like, top_kept, below_right, as_rooted}
-use Rattle.walk_theory.proofs.Over.{never, not_both, either, Put, plain, led, home_put, home_attached, home_beside, origin_by, in_behind, Spot, gap, out, Outside, named_late, named_base, named_cases, late_new, spot_of, grown_over_lem, base_none, base_bare, base_closed, in_base, attached_same, beside_base, path_base, out_not, In, in_gap, beside}
+use Rattle.walk_theory.proofs.Over.{never, either, plain, led, home_put, home_beside, origin_by, in_behind, Spot, gap, out, named_late, named_base, named_cases, late_new, spot_of, grown_over_lem, base_none, base_bare, attached_same, beside_base, path_base, in_gap, beside}
 use Rattle.walk_theory.proofs.Bases.{Alike, alike_from, seated_more, in_over}
 
 own_path : (t : Tree) (x : Name) (q : Attachment) → steps t x ≡ steps_to (steps t) q x → path t x ≡ steps_to (steps t) q x ++ end ∷ []

@@ -1,27 +1,27 @@
 -- One tree that grows over a base.
-use Rattle.std.proofs.Common.{◌≡◌, ℕ, Bool, true, false, cond, not, ◌||◌, ◌⊎◌, ◌↔◌, List, [], ◌∷◌, ◌++◌, Some, None, Option, sym, refl, ap, ◌∙◌, subst, ap₂, inl, inr, arith}
-use Rattle.std.specs.List.{AllByRecursion as All}
-use Rattle.std.proofs.lemmas.Bool.{both_ways, cases_Bool, or_left, or_right, or_cases, or_from}
+use Rattle.std.proofs.Common.{◌≡◌, ℕ, Bool, true, false, not, ◌⊎◌, List, [], ◌∷◌, ◌++◌, Some, None, Option, sym, refl, ap, ◌∙◌, subst, ap₂, inl, inr, arith}
+use Rattle.std.specs.List.{AllByRecursion}
+use Rattle.std.proofs.lemmas.Bool.{both_ways, cases_Bool, or_right, or_cases}
 use Rattle.std.proofs.ByRecursion.{All-weaker}
 use Rattle.events.specs.declared.name.Name.{Name}
 use Rattle.fugue.proofs.Grown.{inside}
 use Rattle.fugue.specs.Names.{same, Ordered, ◌∈◌, Rising}
 use Rattle.fugue.specs.Paths.{end, steps_to, steps, path, path_before}
 use Rattle.fugue.specs.Placements.{after, attached_by}
-use Rattle.fugue.specs.Tree.{Attachment, root, left_of, rightOf, same_attachment, Node, Tree, children, sequence, AttachedTo, ClosedPart, has_node, Grown, Children, SequenceOf, next}
+use Rattle.fugue.specs.Tree.{Attachment, root, left_of, rightOf, same_attachment, Node, Tree, children, sequence, AttachedTo, ClosedPart, has_node, Grown, Children}
 use Rattle.fugue.proofs.Beside.{Starts}
-use Rattle.fugue.proofs.Grown.{has_own, attached_like, other_name, node_of_lem}
-use Rattle.fugue.proofs.Lists.{all_member, all_members, in_either, in_right}
-use Rattle.fugue.proofs.Names.{same_name, same_own, attachment_is, attachment_refl}
-use Rattle.fugue.proofs.Paths.{steps_older, steps_own, path_irreflexive, path_transitive, path_total, by_paths, members, one_path}
-use Rattle.fugue.proofs.Sequences.{children_are, sequence_right}
+use Rattle.fugue.proofs.Grown.{has_own, attached_like, node_of_lem}
+use Rattle.fugue.proofs.Lists.{all_member, in_either, in_right}
+use Rattle.fugue.proofs.Names.{same_name, same_own, attachment_refl}
+use Rattle.fugue.proofs.Paths.{steps_older, steps_own, path_irreflexive, path_transitive, path_total, members, one_path}
+use Rattle.fugue.proofs.Sequences.{children_are}
 use Rattle.walk_theory.specs.Origins.{Origin, behind, up_to, front}
 use Rattle.walk_theory.specs.Tops.{by_owner, topAt, beside_owner, comes_before}
 use Rattle.walk_theory.specs.Bases.{home_in, attached_over, node_over, grown_over, OnLater, LaterNodes}
 use Rattle.walk_theory.proofs.Gaps.{followed}
-use Rattle.walk_theory.proofs.Tops.{TopStep, tops, top_older, top_own, none_some, found, sides, topped}
-use Rattle.walk_theory.proofs.Cuts.{rising_left, rising_right, rising_across}
-use Rattle.walk_theory.proofs.Search.{cut_at, front_is, as_rooted, rises, in_t, named_s, passed, no_top, beside_past, origin_like}
+use Rattle.walk_theory.proofs.Tops.{top_older, top_own, none_some, sides}
+use Rattle.walk_theory.proofs.Cuts.{rising_right, rising_across}
+use Rattle.walk_theory.proofs.Search.{cut_at, front_is, as_rooted, rises, in_t, named_s, no_top, beside_past, origin_like}
 
 -- an order of node_names by their paths in a tree
 module _ (before : Name → Name → Bool) (o : Ordered before) (t : Tree) (g : Grown t) where
@@ -118,14 +118,14 @@ module _ (before : Name → Name → Bool) (o : Ordered before) (b : Tree) (gb :
           let m = node_of_lem b c k in
           let rs : Rising (λ m n. L m.name n.name ≡ true) (front q s ++ n ∷ ns) = rw w at (rw (← (front_is q s (has_node b) h)) at (rises before o b gb)) in
           let i : m.0 ∈ (front q s ++ n ∷ ns) = rw w at (rw (← (front_is q s (has_node b) h)) at ((members before o b gb m.0).1 m.1)) in
-          let past-q : All (λ j. beside_owner before b q j.name ≡ false) (n ∷ ns) = rw w at (beside_past before o b gb q h) in
+          let past-q : AllByRecursion (λ j. beside_owner before b q j.name ≡ false) (n ∷ ns) = rw w at (beside_past before o b gb q h) in
           subst (λ z. L z n.name ≡ beside_owner before b q z) m.2
           (elim (in_either (front q s) (n ∷ ns) m.0 i) [
             | inl j ↦ rising_across _ (front q s) (n ∷ ns) rs m.0 n j (inl refl) ∙ sym (aside_front q h m.0 j)
             | inr j ↦ behind_n n ns m.0 j (rising_right _ (front q s) (n ∷ ns) rs).0 ∙ sym (all_member _ (n ∷ ns) m.0 past-q j)
           ])
         where
-          behind_n : (n : Node) (ns : List Node) (d : Node) → d ∈ (n ∷ ns) → All (λ j. L n.name j.name ≡ true) ns → L d.name n.name ≡ false
+          behind_n : (n : Node) (ns : List Node) (d : Node) → d ∈ (n ∷ ns) → AllByRecursion (λ j. L n.name j.name ≡ true) ns → L d.name n.name ≡ false
           behind_n n ns d (inl e) a = rw e (never before o b gb n.name)
           behind_n n ns d (inr i) a = not_both before o b gb n.name d.name (all_member _ ns d a i)
 

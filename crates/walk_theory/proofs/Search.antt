@@ -1,7 +1,7 @@
 -- The climb and the scan find the place that paths give.
-use Rattle.std.proofs.Common.{◌≡◌, ℕ, zero, suc, ◌+◌, ◌-◌, ◌<◌, ◌≤◌, Bool, true, false, cond, not, ◌&&◌, ◌⊎◌, ◌↔◌, List, [], ◌∷◌, ◌++◌, length, take, drop, Some, None, filter, Option, sym, refl, ap, ◌∙◌, subst, ap₂, inl, inr, append_assoc, arith}
-use Rattle.std.specs.List.{prefix_len, suffix_len, AllByRecursion as All}
-use Rattle.std.proofs.lemmas.Bool.{both_ways, cases_Bool, and_parts, and_from}
+use Rattle.std.proofs.Common.{◌≡◌, ℕ, zero, suc, ◌+◌, ◌<◌, ◌≤◌, Bool, true, false, cond, not, ◌&&◌, List, [], ◌∷◌, ◌++◌, length, take, drop, Some, None, Option, sym, refl, ap, ◌∙◌, subst, ap₂, inl, inr, append_assoc, arith}
+use Rattle.std.specs.List.{prefix_len, AllByRecursion}
+use Rattle.std.proofs.lemmas.Bool.{both_ways, cases_Bool, and_parts}
 use Rattle.std.proofs.ByRecursion.{All-weaker}
 use Rattle.events.specs.declared.name.Name.{Name}
 use Rattle.events.specs.declared.character.Character.{Character}
@@ -9,22 +9,22 @@ use Rattle.fugue.proofs.Grown.{inside}
 use Rattle.fugue.specs.Names.{same, Ordered, ◌∈◌, Rising}
 use Rattle.fugue.specs.Paths.{Step, end, right, left, steps_to, steps, path, path_before}
 use Rattle.fugue.specs.Placements.{after, attached_by}
-use Rattle.fugue.specs.Tree.{Attachment, root, left_of, rightOf, same_attachment, Node, Tree, children, sequence, only, AttachedTo, ClosedPart, has_node, Grown, Children, SequenceOf}
+use Rattle.fugue.specs.Tree.{Attachment, root, left_of, rightOf, same_attachment, Node, Tree, children, sequence, only, AttachedTo, ClosedPart, has_node, Grown, Children}
 use Rattle.fugue.proofs.Beside.{Starts}
-use Rattle.fugue.proofs.Grown.{has_own, age, aged, OnOlder, Aged, age_below, grown_only, attached_like, has_only, other_name, names_apart, node_of_lem}
+use Rattle.fugue.proofs.Grown.{has_own, age, aged, OnOlder, age_below, grown_only, has_only, node_of_lem}
 use Rattle.fugue.proofs.Leaf.{leaf}
-use Rattle.fugue.proofs.Lists.{all_member, all_members, kept_member, member_kept, in_left, in_right, rises_weaker, all_both}
+use Rattle.fugue.proofs.Lists.{all_member, all_members, kept_member, member_kept, in_right, rises_weaker, all_both}
 use Rattle.fugue.proofs.Names.{same_name, same_own, attachment_is, attachment_refl, same_not}
 use Rattle.fugue.proofs.Nested.{sequence_part}
-use Rattle.fugue.proofs.Paths.{steps_older, steps_own, path_irreflexive, path_transitive, path_total, by_paths, members}
+use Rattle.fugue.proofs.Paths.{steps_older, steps_own, path_irreflexive, path_transitive, by_paths, members}
 use Rattle.fugue.proofs.Sequences.{children_are, sequence_right}
 use Rattle.walk_theory.specs.Origins.{Origin, behind, up_to, front, new_node}
 use Rattle.walk_theory.specs.Tops.{by_owner, topAt, beside_owner, comes_before}
-use Rattle.walk_theory.specs.Search.{attachment_in, until, climb, topOutside, top_precedes, top_follows, home, run, up, down, among, place_for, Found}
+use Rattle.walk_theory.specs.Search.{attachment_in, until, climb, topOutside, top_precedes, top_follows, home, up, down, among, Found}
 use Rattle.walk_theory.proofs.Gaps.{followed}
 use Rattle.walk_theory.proofs.Along.{Hangs, along}
 use Rattle.walk_theory.proofs.Forks.{alike}
-use Rattle.walk_theory.proofs.Tops.{TopStep, tops, found, sides}
+use Rattle.walk_theory.proofs.Tops.{tops, found, sides}
 use Rattle.walk_theory.proofs.Cuts.{all_left, all_right, rising_left, rising_right, rising_across, Falls, all_high, all_low, leading_front, leading_stop, leading_like, kept_alike, kept_take, from_end, falls_like}
 use Rattle.walk_theory.proofs.Climbs.{Climbs, here, up as on, Begins, begins, nexts}
 
@@ -46,7 +46,7 @@ from_passes p (m ∷ l) n ns h = elim (cases_Bool (p m.name)) [
   | inr e ↦ from_passes p l n ns (rw e at h)
 ]
 
-pub until_none : (p : Name → Bool) (l : List Node) → All (λ n. p n.name ≡ false) (until p l)
+pub until_none : (p : Name → Bool) (l : List Node) → AllByRecursion (λ n. p n.name ≡ false) (until p l)
 until_none p [] = tt
 until_none p (n ∷ ns) = let ih = until_none p ns in elim (cases_Bool (p n.name)) [ inl e ↦ rw e tt | inr e ↦ rw e (e, ih) ]
 
@@ -133,7 +133,7 @@ module _ (before : Name → Name → Bool) (o : Ordered before) (t : Tree) (g : 
   pub in_t : (n : Node) → n ∈ s → n ∈ t
   in_t n = (members before o t g n).0
 
-  pub all_named : All (λ n. has_node t n.name ≡ true) s
+  pub all_named : AllByRecursion (λ n. has_node t n.name ≡ true) s
   all_named = all_members _ s (λ n i. all_member _ t n (has_own t) (in_t n i))
 
   pub named_s : (y : Name) → has_node t y ≡ true → has_node s y ≡ true
@@ -143,10 +143,10 @@ module _ (before : Name → Name → Bool) (o : Ordered before) (t : Tree) (g : 
   seats n i = seat_is s apart n ((members before o t g n).1 i)
 
   -- a node of the sequence is before all behind it
-  pub passed : (y : Name) → has_node t y ≡ true → All (λ m. path_before before (path t y) (path t m.name) ≡ true) (after y s)
+  pub passed : (y : Name) → has_node t y ≡ true → AllByRecursion (λ m. path_before before (path t y) (path t m.name) ≡ true) (after y s)
   passed y h =
       let r = cut_at y s (named_s y h) in
-      subst (λ z. All (λ m. path_before before (path t z) (path t m.name) ≡ true) (after y s)) r.3 (rising_right Before r.0 (r.1 ∷ after y s) (rw r.2 at rises)).0
+      subst (λ z. AllByRecursion (λ m. path_before before (path t z) (path t m.name) ≡ true) (after y s)) r.3 (rising_right Before r.0 (r.1 ∷ after y s) (rw r.2 at rises)).0
 
   pub below_right : (x y : Name) → path_before before (path t y) (steps_to (steps t) (rightOf y) x ++ end ∷ []) ≡ true
   unfolding path
@@ -157,7 +157,7 @@ module _ (before : Name → Name → Bool) (o : Ordered before) (t : Tree) (g : 
   above_left x y = ap (path_before before (steps t y ++ end ∷ [])) (append_assoc (steps t y) (left x ∷ []) (end ∷ [])) ∙ alike before o (steps t y) (end ∷ []) (left x ∷ end ∷ [])
 
   -- what stands behind a left origin is not before a new node there
-  pub beside_past : (p : Attachment) → Origin (has_node t) p → All (λ n. beside_owner before t p n.name ≡ false) (behind p s)
+  pub beside_past : (p : Attachment) → Origin (has_node t) p → AllByRecursion (λ n. beside_owner before t p n.name ≡ false) (behind p s)
   beside_past root h = all_members _ s (λ n i. refl)
   beside_past (left_of y) h = elim h [ ]
   beside_past (rightOf y) h = All-weaker _ _ (λ n k. rw k) (after y s) (passed y h)
@@ -258,16 +258,16 @@ module _ (before : Name → Name → Bool) (o : Ordered before) (t : Tree) (g : 
       whole : front p s ++ (mid ++ rest) ≡ s
       whole = ap (λ z. front p s ++ z) (until_from v (behind p s)) ∙ front_is p s (has_node t) qt
 
-      pub all_behind : (P : Node → Type 0) → All P s → All P (behind p s)
+      pub all_behind : (P : Node → Type 0) → AllByRecursion P s → AllByRecursion P (behind p s)
       all_behind P a = all_right P (front p s) (behind p s) (rw (← (front_is p s (has_node t) qt)) at a)
 
-      pub all_mid : (P : Node → Type 0) → All P (behind p s) → All P mid
+      pub all_mid : (P : Node → Type 0) → AllByRecursion P (behind p s) → AllByRecursion P mid
       all_mid P a = all_left P mid rest (rw (← (until_from v (behind p s))) at a)
 
-      all_rest : (P : Node → Type 0) → All P (behind p s) → All P rest
+      all_rest : (P : Node → Type 0) → AllByRecursion P (behind p s) → AllByRecursion P rest
       all_rest P a = all_right P mid rest (rw (← (until_from v (behind p s))) at a)
 
-      pub named_behind : All (λ n. has_node t n.name ≡ true) (behind p s)
+      pub named_behind : AllByRecursion (λ n. has_node t n.name ≡ true) (behind p s)
       named_behind = all_behind _ all_named
 
       -- at a home h where the version has nothing
@@ -296,13 +296,13 @@ module _ (before : Name → Name → Bool) (o : Ordered before) (t : Tree) (g : 
         at_leaf c =
             let e = new_node x h c in
             let own : path (e ∷ t) x ≡ goal = ap (λ z. z ++ end ∷ []) (steps_own e t) in
-            let olds : All (λ n. path_before before (path (e ∷ t) n.name) (path (e ∷ t) x) ≡ B n) s
+            let olds : AllByRecursion (λ n. path_before before (path (e ∷ t) n.name) (path (e ∷ t) x) ≡ B n) s
             = All-weaker _ _ (λ n k. ap₂ (path_before before) (ap (λ z. z ++ end ∷ []) (steps_older e t fx n.name k)) own) s all_named in
             let k = kept_take B s falls in
             leaf before o e t (fx, rh, g)
             ∙ ap₂ (λ a b. a ++ e ∷ b) (kept_alike _ B s olds ∙ k.0) (kept_alike _ (λ n. not (B n)) s (All-weaker _ _ (λ n f. ap not f) s olds) ∙ k.1)
 
-        home_by_count : All (λ n. B n ≡ true) (front p s) → All (λ n. B n ≡ false) rest → prefix_len B s ≡ length (front p s) + prefix_len B mid
+        home_by_count : AllByRecursion (λ n. B n ≡ true) (front p s) → AllByRecursion (λ n. B n ≡ false) rest → prefix_len B s ≡ length (front p s) + prefix_len B mid
         home_by_count a b =
             ap (prefix_len B) (sym whole) ∙ leading_front B (front p s) (mid ++ rest) a ∙ ap (λ z. length (front p s) + z) (leading_stop B mid rest b)
 
@@ -315,16 +315,16 @@ module _ (before : Name → Name → Bool) (o : Ordered before) (t : Tree) (g : 
         falls_rest : Falls B rest
         falls_rest = rising_right _ mid rest (rw (← (until_from v (behind p s))) at falls_behind)
 
-        high_rest : (r : List Node) → rest ≡ r → ((n : Node) (ns : List Node) → rest ≡ n ∷ ns → B n ≡ false) → All (λ n. B n ≡ false) r
+        high_rest : (r : List Node) → rest ≡ r → ((n : Node) (ns : List Node) → rest ≡ n ∷ ns → B n ≡ false) → AllByRecursion (λ n. B n ≡ false) r
         high_rest [] e f = tt
         high_rest (n ∷ ns) e f = all_high B n ns (rw e at falls_rest) (f n ns e)
 
-        low_front : (y : Name) → has_node t y ≡ true → path_before before (path t y) goal ≡ true → All (λ n. B n ≡ true) (up_to y s)
+        low_front : (y : Name) → has_node t y ≡ true → path_before before (path t y) goal ≡ true → AllByRecursion (λ n. B n ≡ true) (up_to y s)
         low_front y n b =
             let r = cut_at y s (named_s y n) in
             rw r.4 (all_low B r.0 r.1 (after y s) (rw r.2 at falls) (rw r.3 b))
 
-        low_at : (q : Attachment) → Origin (has_node t) q → ((y : Name) → q ≡ rightOf y → has_node t y ≡ true → path_before before (path t y) goal ≡ true) → All (λ n. B n ≡ true) (front q s)
+        low_at : (q : Attachment) → Origin (has_node t) q → ((y : Name) → q ≡ rightOf y → has_node t y ≡ true → path_before before (path t y) goal ≡ true) → AllByRecursion (λ n. B n ≡ true) (front q s)
         low_at root k f = tt
         low_at (left_of y) k f = elim k [ ]
         low_at (rightOf y) k f = low_front y k (f y refl k)
@@ -338,7 +338,7 @@ module _ (before : Name → Name → Bool) (o : Ordered before) (t : Tree) (g : 
         root_p : AttachedTo (has_node t) p
         root_p = as_rooted (has_node t) p qt
 
-        right_like : All (λ n. B p root_p bare n ≡ top_precedes before x (topOutside d s v p n.name)) mid
+        right_like : AllByRecursion (λ n. B p root_p bare n ≡ top_precedes before x (topOutside d s v p n.name)) mid
         right_like =
             All-weaker _ _ (λ n k. judged p root_p bare n.name k.0 ∙ prec n.name (topAt t p n.name) k.1 ∙ ap (top_precedes before x) (sym (kin_here p root_p bare n.name k.0)))
             mid (all_mid _ (all_both _ _ (behind p s) named_behind (beside_past p qt)))
@@ -363,7 +363,7 @@ module _ (before : Name → Name → Bool) (o : Ordered before) (t : Tree) (g : 
 
         behind_n : (q : Attachment) → q ≡ p → (y : Name) → q ≡ rightOf y → has_node t y ≡ true → path_before before (path t y) (path t n.name) ≡ true
         behind_n q e y f k =
-            let a : All (λ m. path_before before (path t y) (path t m.name) ≡ true) (behind p s) = subst (λ z. All (λ m. path_before before (path t y) (path t m.name) ≡ true) (behind z s)) (sym f ∙ e) (passed y k) in
+            let a : AllByRecursion (λ m. path_before before (path t y) (path t m.name) ≡ true) (behind p s) = subst (λ z. AllByRecursion (λ m. path_before before (path t y) (path t m.name) ≡ true) (behind z s)) (sym f ∙ e) (passed y k) in
             (rw er at (all_rest _ a)).0
 
         foll : (y : Name) → has_node t y ≡ true → path_before before (path t y) (path t n.name) ≡ true → (m : Option Name) → topAt t (left_of n.name) y ≡ m
@@ -377,12 +377,12 @@ module _ (before : Name → Name → Bool) (o : Ordered before) (t : Tree) (g : 
             flip : (w : Name) → (w ≡ x → ⊥) → not (before w x) ≡ before x w
             flip w z = grind (arith, o.total w x, o.irreflexive w, o.transitive w x w, z)
 
-        mids : All (λ m. path_before before (path t m.name) (path t n.name) ≡ true) mid
+        mids : AllByRecursion (λ m. path_before before (path t m.name) (path t n.name) ≡ true) mid
         mids =
             let a : Rising Before (mid ++ n ∷ r) = rw er at (rw (← (until_from v (behind p s))) at (rising_right Before (front p s) (behind p s) (rw (← (front_is p s (has_node t) qt)) at rises))) in
             all_members _ mid (λ m i. rising_across Before mid (n ∷ r) a m n i (inl refl))
 
-        left_like : All (λ m. not (B (left_of n.name) root_n bare m) ≡ top_follows before x (topOutside d s v (left_of n.name) m.name)) mid
+        left_like : AllByRecursion (λ m. not (B (left_of n.name) root_n bare m) ≡ top_follows before x (topOutside d s v (left_of n.name) m.name)) mid
         left_like =
             All-weaker _ _ (λ m k.
             ap not (judged (left_of n.name) root_n bare m.name k.0) ∙ foll m.name k.0 k.1 (topAt t (left_of n.name) m.name) refl

@@ -1,6 +1,6 @@
 -- What the index shows of a version, and of all events, is what is visible.
 use Rattle.std.proofs.Common.{◌≡◌, Bool, true, false, not, ◌&&◌, List, [], ◌∷◌, ◌++◌, filter, sym, ap, ◌∙◌, subst, arith}
-use Rattle.std.specs.List.{AllByRecursion as All}
+use Rattle.std.specs.List.{AllByRecursion}
 use Rattle.std.proofs.lemmas.Bool.{cond_both, or_right}
 use Rattle.std.proofs.ByRecursion.{All-weaker}
 use Rattle.events.specs.declared.name.Name.{Name}
@@ -67,12 +67,12 @@ module _ (before : Name → Name → Bool) where
   unfolding targets
   struck_more p ps y h = has_append (target_of p.placement) (targets ps) y ∙ or_right (has (target_of p.placement) y) _ h
 
-  all_placed : (v : List Name) (closed : NewestFirst) → All (λ e. has v e.name ≡ true) closed → All (λ p. has v p.name ≡ true) (placements before closed)
+  all_placed : (v : List Name) (closed : NewestFirst) → AllByRecursion (λ e. has v e.name ≡ true) closed → AllByRecursion (λ p. has v p.name ≡ true) (placements before closed)
   unfolding placements
   all_placed v [] a = tt
   all_placed v (e ∷ closed) a = (a.0, all_placed v closed a.1)
 
-  struck_part : (v : List Name) (recent closed : NewestFirst) → All (λ e. has v e.name ≡ true) closed
+  struck_part : (v : List Name) (recent closed : NewestFirst) → AllByRecursion (λ e. has v e.name ≡ true) closed
       → (y : Name) → struck (placements before closed) y ≡ true → struck (part_of v (placements before (recent ++ closed))) y ≡ true
   unfolding placements
   struck_part v [] closed a y h = rw (kept_whole (λ p. has v p.name) (placements before closed) (all_placed v closed a)) h

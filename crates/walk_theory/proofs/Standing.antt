@@ -1,12 +1,12 @@
 -- The index beside the true tree: at the start, at each new event, and at a checkpoint.
-use Rattle.std.proofs.Common.{◌≡◌, ℕ, zero, suc, ◌+◌, ◌≤◌, Bool, true, false, cond, not, ◌&&◌, ◌⊎◌, ◌↔◌, List, [], ◌∷◌, ◌++◌, length, take, drop, filter, sym, refl, ap, ◌∙◌, subst, ap₂, subst₂, inl, inr, append_assoc, append-nil, arith, length-append}
-use Rattle.std.specs.List.{AllByRecursion as All}
+use Rattle.std.proofs.Common.{◌≡◌, ℕ, ◌+◌, ◌≤◌, Bool, true, false, not, ◌&&◌, List, [], ◌∷◌, ◌++◌, length, filter, sym, refl, ap, ◌∙◌, subst, ap₂, subst₂, inl, inr, append_assoc, append-nil, arith, length-append}
+use Rattle.std.specs.List.{AllByRecursion}
 use Rattle.std.proofs.lemmas.Bool.{both_ways, cases_Bool, or_from, or_left, and_parts, and_from}
-use Rattle.std.proofs.ByRecursion.{All-weaker, all_kept_by}
+use Rattle.std.proofs.ByRecursion.{All-weaker}
 use Rattle.events.specs.declared.name.Name.{Name}
 use Rattle.events.specs.declared.character.Character.{Character}
 use Rattle.fugue.proofs.Grown.{inside}
-use Rattle.fugue.specs.Names.{same, Ordered, ◌∈◌, Rising}
+use Rattle.fugue.specs.Names.{Ordered, ◌∈◌, Rising}
 use Rattle.fugue.specs.Paths.{path, path_before}
 use Rattle.fugue.specs.Placements.{after, attached_by}
 use Rattle.fugue.specs.Tree.{sorted, Attachment, root, left_of, rightOf, Node, Tree, children, sequence, AttachedTo, only, ClosedPart, has_node, Grown, Children}
@@ -14,16 +14,14 @@ use Rattle.fugue.proofs.Beside.{up_to_after, after_append}
 use Rattle.fugue.proofs.Grown.{has_own, node_of_lem}
 use Rattle.fugue.proofs.Leaf.{leaf}
 use Rattle.fugue.proofs.Lists.{all_member, all_members, kept_member, member_kept, rises_kept, all_both}
-use Rattle.fugue.proofs.Names.{same_name, same_own, same_not}
-use Rattle.fugue.proofs.Paths.{members}
+use Rattle.fugue.proofs.Names.{same_own, same_not}
 use Rattle.walk_theory.specs.Origins.{Origin, behind, front, new_node}
-use Rattle.walk_theory.specs.Search.{home, place_for, Found}
-use Rattle.walk_theory.specs.Bases.{home_in, attached_over, node_over, grown_over, OnLater, LaterNodes, node_names, Agrees}
+use Rattle.walk_theory.specs.Bases.{attached_over, grown_over, OnLater, LaterNodes, node_names, Agrees}
 use Rattle.walk_theory.specs.Agreement.{GrewAlike}
 use Rattle.walk_theory.specs.Standing.{Stands, in_chain, chain_tree, StepStands}
 use Rattle.walk_theory.proofs.Gaps.{at_gap}
 use Rattle.walk_theory.proofs.Search.{apart, in_t, origin_like, finds}
-use Rattle.walk_theory.proofs.Bases.{names_in, names_from, in_map, from_map, alike_from, g_t, gt, twins}
+use Rattle.walk_theory.proofs.Bases.{names_in, names_from, alike_from, g_t, gt, twins}
 use Rattle.walk_theory.proofs.Agreement.{closed_small, grows}
 
 -- a sequence is as long as its tree
@@ -91,7 +89,7 @@ module _ (before : Name → Name → Bool) (o : Ordered before) where
   ]
 
   chain : (l : List Node) (t : Tree) → Grown t → (q : Attachment) → Origin (has_node t) q → Children before t q [] → front q (sequence before t) ≡ sequence before t → behind q (sequence before t) ≡ []
-      → All (λ n. has_node t n.name ≡ false) l → Rising (λ m n. m.name ≡ n.name → ⊥) l → Chained t q l
+      → AllByRecursion (λ n. has_node t n.name ≡ false) l → Rising (λ m n. m.name ≡ n.name → ⊥) l → Chained t q l
   chain [] t g q h k ef eb a r = record { grown = g; is = sym (append-nil (sequence before t)) }
   chain (n ∷ l) t g q h k ef eb a r =
       let s = sequence before t in
@@ -183,7 +181,7 @@ pub names_only : (p : Name → Bool) (l : List Node) → node_names (only p l) �
 names_only p [] = refl
 names_only p (n ∷ l) = let ih = names_only p l in elim (cases_Bool (p n.name)) [ inl e ↦ rw e (ap (λ z. n.name ∷ z) ih) | inr e ↦ rw e ih ]
 
-pub kept_both : (p q r : Name → Bool) (l : List Name) → All (λ y. r y ≡ (p y && q y)) l → filter p (filter q l) ≡ filter r l
+pub kept_both : (p q r : Name → Bool) (l : List Name) → AllByRecursion (λ y. r y ≡ (p y && q y)) l → filter p (filter q l) ≡ filter r l
 kept_both p q r [] a = refl
 kept_both p q r (y ∷ l) a = let ih = kept_both p q r l a.1 in let e = a.0 in grind (arith, ih, e)
 

@@ -1,15 +1,14 @@
 -- What the states of characters say of a version.
-use Rattle.std.proofs.Common.{◌≡◌, ℕ, zero, suc, ◌+◌, ◌<◌, ◌≤◌, Bool, true, false, cond, not, ◌&&◌, ◌||◌, eqb, ltb, ◌⊎◌, List, [], ◌∷◌, ◌++◌, length, filter, sym, refl, ap, ◌∙◌, subst, ap₂, inl, inr, arith}
-use Rattle.std.specs.List.{flat_map, AllByRecursion as All}
+use Rattle.std.proofs.Common.{◌≡◌, ℕ, suc, ◌+◌, Bool, true, false, cond, not, ◌&&◌, ◌||◌, eqb, ltb, ◌⊎◌, List, [], ◌∷◌, ◌++◌, length, filter, sym, refl, ap, ◌∙◌, subst, inl, inr, arith}
 use Rattle.std.proofs.lemmas.Bool.{both_ways, cases_Bool, or_cases, ltb-true, ltb-false, lt-ltb, le-ltb, eq-eqb, ne_eqb}
 use Rattle.events.specs.declared.name.Name.{Name}
 use Rattle.events.specs.Parts.{NamedEvent}
-use Rattle.fugue.specs.Names.{◌∈◌, same, has}
-use Rattle.fugue.specs.Logs.{NewestFirst, names, version, Distinct}
+use Rattle.fugue.specs.Names.{same, has}
+use Rattle.fugue.specs.Logs.{NewestFirst, version, Distinct}
 use Rattle.fugue.specs.Tree.{Node, Tree, only, has_node, Grown}
 use Rattle.fugue.specs.Placements.{Placement, inserted, deleted, beyond, Placed, node_of, target_of, nodes, targets, struck, part_of, placements, seen, placementIn, treeAt, tree}
-use Rattle.fugue.proofs.Names.{same_name, same_own, has_append}
-use Rattle.fugue.proofs.Lists.{all_member, all_members, kept_like}
+use Rattle.fugue.proofs.Names.{same_name, has_append}
+use Rattle.fugue.proofs.Lists.{all_members, kept_like}
 use Rattle.fugue.proofs.Versions.{reach, reach_parent, other_event, version_cases, version_older, version_mono, version_held, version_step}
 use Rattle.fugue.proofs.SameEvents.{place, placements_step, placed_held}
 use Rattle.fugue.proofs.Placed.{Fitting, tree_part, sound_in, part_has, grown_log}

@@ -1,7 +1,7 @@
 -- A new event of a log, as the index takes it in.
 use Rattle.std.proofs.Common.{◌≡◌, ℕ, zero, suc, ◌≤◌, Bool, true, false, not, ◌&&◌, ◌||◌, List, [], ◌∷◌, ◌++◌, length, take, drop, Some, unwrap_or, sym, refl, ap, ◌∙◌, subst, arith}
 use Rattle.std.specs.Option.{option_map}
-use Rattle.std.specs.List.{AllByRecursion as All, slice_get}
+use Rattle.std.specs.List.{AllByRecursion, slice_get}
 use Rattle.std.proofs.lemmas.List.{take-append-drop}
 use Rattle.std.proofs.lemmas.Bool.{both_ways, and_parts, and_from}
 use Rattle.events.specs.declared.name.Name.{Name}
@@ -10,7 +10,7 @@ use Rattle.events.specs.declared.position.Position.{Position}
 use Rattle.events.specs.declared.deed.Deed.TheVariants as deed
 use Rattle.events.specs.Parts.{NamedEvent}
 use Rattle.fugue.specs.Names.{same, has, Ordered}
-use Rattle.fugue.specs.Logs.{NewestFirst, names, version, Distinct}
+use Rattle.fugue.specs.Logs.{NewestFirst, version, Distinct}
 use Rattle.fugue.specs.Tree.{Node, Tree, only, node_names, has_node}
 use Rattle.fugue.specs.Placements.{inserted, deleted, beyond, node_of, struck, LeftOrigin, start, node, left_origin, right_end_of, visible, attachmentAfter, placement, seen, placementIn, treeAt, tree}
 use Rattle.fugue.proofs.Names.{same_not}
@@ -41,7 +41,7 @@ origin_like a b e (suc p) = nth_like node a b e p
 target_like : (a b : List Node) → node_names a ≡ node_names b → (p : ℕ) → deleted_at (slice_get a p) ≡ deleted_at (slice_get b p)
 target_like a b e p = ap (λ z. unwrap_or z beyond) (nth_like deleted a b e p)
 
-origin_passes : (pass : Name → Bool) (ns : List Node) → All (λ n. pass n.name ≡ true) ns → (p : ℕ) (q : LeftOrigin) → left_origin ns p ≡ Some q → Origin pass (right_end_of q)
+origin_passes : (pass : Name → Bool) (ns : List Node) → AllByRecursion (λ n. pass n.name ≡ true) ns → (p : ℕ) (q : LeftOrigin) → left_origin ns p ≡ Some q → Origin pass (right_end_of q)
 origin_passes pass ns a p start e = tt
 origin_passes pass ns a zero (node y) e = absurd (let z : ◌≡◌ {A = ℕ} 0 1 = cc in omega arith)
 origin_passes pass [] a (suc p) (node y) e = absurd (let z : ◌≡◌ {A = ℕ} 0 1 = cc in omega arith)
@@ -87,7 +87,7 @@ module _ (before : Name → Name → Bool) (o : Ordered before) (e : NamedEvent)
   sees_nodes : (y : Name) → has_node (tree before closed) y ≡ true → v y ≡ true
   sees_nodes y k = let r = event_of_lem closed y (node_held before closed y k) in subst (λ z. v z ≡ true) r.2 (all_member _ closed r.0 sees r.1)
 
-  shown_pass : All (λ n. (has_node listed n.name && v n.name) ≡ true) shown
+  shown_pass : AllByRecursion (λ n. (has_node listed n.name && v n.name) ≡ true) shown
   shown_pass = all_members _ shown (λ n i.
       let k = member_kept (λ m. v m.name && not (struck (seen before log e.parents) m.name)) listed n i in
       and_from _ _ (node_in listed n k.0) (and_parts (v n.name) (not (struck (seen before log e.parents) n.name)) k.1).0)
@@ -133,10 +133,10 @@ module _ (before : Name → Name → Bool) (o : Ordered before) (e : NamedEvent)
         older a b x y = grind arith
 
     -- no listed node has the new name
-    others : All (λ m. same m.name e.name ≡ false) (take place listed)
+    others : AllByRecursion (λ m. same m.name e.name ≡ false) (take place listed)
     others =
         all_left _ (take place listed) (drop place listed)
-        (subst (All (λ m. same m.name e.name ≡ false)) (sym (take-append-drop place listed))
+        (subst (AllByRecursion (λ m. same m.name e.name ≡ false)) (sym (take-append-drop place listed))
         (all_members _ listed (λ m i. same_not m.name e.name
         (λ z. both_ways _ (fresh_node before e log u.0) (rw z at (listed_whole before o log closed u.1 small later listed h m i))))))
 

@@ -1,19 +1,18 @@
 -- A node's order beside a new node goes by its topAt.
-use Rattle.std.proofs.Common.{◌≡◌, ℕ, zero, suc, Bool, true, false, cond, not, ◌⊎◌, List, [], ◌∷◌, ◌++◌, length, Some, None, Option, sym, refl, ap, ◌∙◌, subst, inl, inr, append_assoc, arith, length-append}
-use Rattle.std.specs.List.{AllByRecursion as All}
+use Rattle.std.proofs.Common.{◌≡◌, ℕ, Bool, true, false, cond, ◌⊎◌, List, [], ◌∷◌, ◌++◌, length, Some, None, Option, sym, refl, ap, ◌∙◌, inl, inr, append_assoc, arith, length-append}
+use Rattle.std.specs.List.{AllByRecursion}
 use Rattle.std.proofs.lemmas.Bool.{both_ways, cases_Bool}
 use Rattle.std.proofs.lemmas.List.{same_from_push}
 use Rattle.std.proofs.ByRecursion.{All-weaker}
 use Rattle.events.specs.declared.name.Name.{Name}
 use Rattle.fugue.proofs.Grown.{inside}
-use Rattle.fugue.specs.Names.{same, Ordered, ◌∈◌}
+use Rattle.fugue.specs.Names.{Ordered, ◌∈◌}
 use Rattle.fugue.specs.Paths.{Step, left, end, right, steps_to, steps, path, path_before}
 use Rattle.fugue.specs.Tree.{Attachment, root, left_of, rightOf, same_attachment, Node, Tree, AttachedTo, has_node, Grown}
 use Rattle.fugue.proofs.Grown.{has_own, other_name, node_of_lem}
 use Rattle.fugue.proofs.Lists.{all_member, all_both}
-use Rattle.fugue.proofs.Names.{same_name, same_own, attachment_is, attachment_refl}
-use Rattle.fugue.proofs.Paths.{steps_older, to_older, steps_own, stepped, one_path}
-use Rattle.walk_theory.specs.Origins.{behind}
+use Rattle.fugue.proofs.Names.{same_own, attachment_is, attachment_refl}
+use Rattle.fugue.proofs.Paths.{stepped, one_path}
 use Rattle.walk_theory.specs.Tops.{by_owner, topAt, beside_owner, comes_before}
 use Rattle.walk_theory.proofs.Along.{Hangs, along}
 use Rattle.walk_theory.proofs.Forks.{Ended, alike, by_name, beside_left, beside_right}
@@ -52,7 +51,7 @@ pub top_own : (n : Node) (older : Tree) (q : Attachment) → topAt (n ∷ older)
 unfolding topAt
 top_own n older q = rw (same_own n.name)
 
-pub tops : (t : Tree) (q : Attachment) → Grown t → All (TopStep t q) t
+pub tops : (t : Tree) (q : Attachment) → Grown t → AllByRecursion (TopStep t q) t
 tops [] q g = tt
 tops (n ∷ older) q g = (
   top_own n older q ∙ ap (λ z. cond (same_attachment n.attachment q) (Some n.name) z) (by_owner_older n older q g.0 n.attachment g.1),

@@ -1,5 +1,5 @@
 -- Two trees that grow alike over two bases.
-use Rattle.std.specs.Prelude.{◌≡◌, ℕ, Bool, true, false, cond, ◌⊎◌, List, [], ◌∷◌, map}
+use Rattle.std.specs.Prelude.{◌≡◌, Bool, true, false, cond, ◌⊎◌, List, [], ◌∷◌, map}
 use Rattle.events.specs.declared.name.Name.{Name}
 use Rattle.fugue.specs.Names.{Ordered}
 use Rattle.fugue.specs.Placements.{attached_by}

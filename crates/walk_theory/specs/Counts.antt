@@ -2,7 +2,7 @@
 use Rattle.std.specs.Prelude.{◌≡◌, ℕ, zero, suc, ◌+◌, ◌≤◌, Bool, true, false, not, ◌&&◌, List, [], ◌∷◌, length, filter}
 use Rattle.events.specs.declared.name.Name.{Name}
 use Rattle.fugue.specs.Names.{Ordered, Rising}
-use Rattle.fugue.specs.Tree.{Attachment, root, left_of, rightOf, same_attachment, Node, Tree, sequence, only, ClosedPart, has_node, Grown}
+use Rattle.fugue.specs.Tree.{Attachment, left_of, same_attachment, Node, Tree, sequence, only, ClosedPart, has_node, Grown}
 use Rattle.walk_theory.specs.Origins.{Origin, behind, front}
 use Rattle.walk_theory.specs.Search.{until, topOutside, top_precedes, top_follows, home, place_for}
 

@@ -5,7 +5,7 @@
 --     put_in         the list with a new node, where the search puts it
 --     Inserts, Deletes, TakesIn   what a new event does to the index and to the text
 use Rattle.std.specs.Prelude.{◌≡◌, ℕ, ◌≤◌, Bool, true, false, cond, not, ◌&&◌, List, [], ◌∷◌, ◌++◌, length, take, drop, Some, None, filter}
-use Rattle.std.specs.List.{AllByRecursion as All, slice_get}
+use Rattle.std.specs.List.{AllByRecursion, slice_get}
 use Rattle.events.specs.declared.name.Name.{Name}
 use Rattle.events.specs.declared.character.Character.{Character}
 use Rattle.events.specs.declared.position.Position.{Position}
@@ -28,7 +28,7 @@ pub record Holds (before : Name → Name → Bool) (log closed : NewestFirst) (s
   pub gone : (y : Name) → has_node (tree before log) y ≡ true → has_node listed y ≡ false → struck (placements before closed) y ≡ true
 
 abbrev pub Sees : NewestFirst → List Name → NewestFirst → Type 0
-Sees log heads closed = All (λ e. has (version log heads) e.name ≡ true) closed
+Sees log heads closed = AllByRecursion (λ e. has (version log heads) e.name ≡ true) closed
 
 -- in the text of all events
 abbrev pub unstruck : (Name → Name → Bool) → NewestFirst → Name → Bool

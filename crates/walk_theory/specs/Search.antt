@@ -1,10 +1,10 @@
 -- The place of a new node in a sequence, found by the nodes' places alone.
-use Rattle.std.specs.Prelude.{◌≡◌, ℕ, zero, suc, ◌+◌, ◌-◌, ◌≤◌, Bool, true, false, cond, ◌&&◌, List, [], ◌∷◌, ◌++◌, length, take, drop, Some, None, Option}
+use Rattle.std.specs.Prelude.{◌≡◌, ℕ, zero, suc, ◌+◌, ◌-◌, ◌≤◌, Bool, false, cond, ◌&&◌, List, [], ◌∷◌, ◌++◌, length, take, drop, Some, None, Option}
 use Rattle.std.specs.List.{prefix_len, suffix_len}
 use Rattle.events.specs.declared.name.Name.{Name}
 use Rattle.events.specs.declared.character.Character.{Character}
 use Rattle.fugue.specs.Names.{same, Ordered}
-use Rattle.fugue.specs.Placements.{after, attached_by}
+use Rattle.fugue.specs.Placements.{attached_by}
 use Rattle.fugue.specs.Tree.{Attachment, root, left_of, rightOf, same_attachment, Node, Tree, children, sequence, only, ClosedPart, has_node, Grown}
 use Rattle.walk_theory.specs.Origins.{Origin, behind, front, new_node}
 use Rattle.walk_theory.specs.Tops.{by_owner}

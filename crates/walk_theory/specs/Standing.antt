@@ -3,7 +3,7 @@ use Rattle.std.specs.Prelude.{◌≡◌, ℕ, ◌≤◌, Bool, true, false, ◌&
 use Rattle.events.specs.declared.name.Name.{Name}
 use Rattle.events.specs.declared.character.Character.{Character}
 use Rattle.fugue.specs.Names.{Ordered}
-use Rattle.fugue.specs.Tree.{Attachment, root, left_of, rightOf, Node, Tree, sequence, only, ClosedPart, has_node, Grown}
+use Rattle.fugue.specs.Tree.{Attachment, root, rightOf, Node, Tree, sequence, only, ClosedPart, has_node, Grown}
 use Rattle.walk_theory.specs.Origins.{Origin, behind, new_node}
 use Rattle.walk_theory.specs.Search.{home, place_for}
 use Rattle.walk_theory.specs.Bases.{home_in, grown_over, LaterNodes, node_names, Agrees}

@@ -4,8 +4,8 @@
 --     StatesTell    what states say of a version
 use Rattle.std.specs.Prelude.{◌≡◌, ℕ, Bool, true, false, not, ◌&&◌, List, length, filter, ◌==◌, nat_lt}
 use Rattle.events.specs.declared.name.Name.{Name}
-use Rattle.fugue.specs.Names.{same, has, Ordered}
-use Rattle.fugue.specs.Logs.{NewestFirst, version, Distinct, ParentsHeld}
+use Rattle.fugue.specs.Names.{same, has}
+use Rattle.fugue.specs.Logs.{NewestFirst, version, Distinct}
 use Rattle.fugue.specs.Tree.{has_node}
 use Rattle.fugue.specs.Placements.{Placement, inserted, deleted, beyond, Placed, struck, seen, tree}
 

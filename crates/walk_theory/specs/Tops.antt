@@ -1,9 +1,9 @@
 -- From which of the siblings at a place a node descends, and what that says of its order.
-use Rattle.std.specs.Prelude.{◌≡◌, Bool, true, false, cond, not, List, [], ◌∷◌, ◌++◌, Some, None, Option}
+use Rattle.std.specs.Prelude.{◌≡◌, Bool, true, false, cond, not, [], ◌∷◌, ◌++◌, Some, None, Option}
 use Rattle.events.specs.declared.name.Name.{Name}
 use Rattle.fugue.specs.Names.{same, Ordered}
 use Rattle.fugue.specs.Paths.{end, steps_to, steps, path, path_before}
-use Rattle.fugue.specs.Tree.{Attachment, root, left_of, rightOf, same_attachment, Node, Tree, AttachedTo, has_node, Grown}
+use Rattle.fugue.specs.Tree.{Attachment, root, left_of, rightOf, same_attachment, Tree, AttachedTo, has_node, Grown}
 
 -- by what a place hangs on
 abbrev pub by_owner : (Name → Option Name) → Attachment → Option Name
