@@ -1,6 +1,6 @@
 -- An event is written: what waited at it is in hand. Where nothing is in the queue, all are written.
 use Rattle.std.proofs.Common.{◌≡◌, ℕ, zero, suc, ◌+◌, ◌*◌, ◌<◌, ◌≤◌, Bool, true, cond, eqb, List, [], ◌∷◌, length, get_or, take, Some, sym, refl, ap, ◌∙◌, subst, inl, inr, append-nil, arith}
-use Rattle.std.specs.List.{AllByRecursion as All, slice_get}
+use Rattle.std.specs.List.{AllByRecursion, slice_get}
 use Rattle.std.proofs.lemmas.List.{length-take-le, get_or-take}
 use Rattle.std.proofs.lemmas.Bool.{cases_eq, cases_lt, eq-eqb, ne_eqb, cond-true, cond-false}
 use Rattle.events.specs.declared.name.Name.{Name}
@@ -202,7 +202,7 @@ module _ (before : Name → Name → Bool) (es : List StoredEvent) (wf : WellFor
     pub archived : Archived before es room cells
     archived =
         let n = all_written in
-        let log : All (λ (d : NamedEvent). has names d.name ≡ true) (log_of es) = all_members _ (log_of es) (λ d i.
+        let log : AllByRecursion (λ (d : NamedEvent). has names d.name ≡ true) (log_of es) = all_members _ (log_of es) (λ d i.
         let r = from_log es d i in
         let x : name_at es r.0 ≡ Some d.name = rw r.2 (ap (λ (z : NamedEvent). Some z.name) (sym r.3)) in
         times_has names d.name (w.every r.0 d.name x (done r.0 (nth_below es r.0 r.1 r.2)))) in
