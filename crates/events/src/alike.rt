@@ -5,6 +5,7 @@ use crate::deed::Deed;
 use crate::name::Name;
 
 // Whether two names are the same name.
+#[tactic(auto, using(crate::specs::Same::compared_same))]
 pub fn same_name(a: Name, b: Name) -> bool
     ensures answer { (result ≡ true → a ≡ b) × (a ≡ b → result ≡ true) }
 {
