@@ -1,9 +1,8 @@
 -- A version by numbers is the version by names of the same events.
-use Rattle.std.proofs.Common.{◌≡◌, ℕ, ◌⊎◌, ◌↔◌, List, [], ◌∷◌, map, Some, sym, refl, ap, ◌∙◌, subst, inl, inr}
+use Rattle.std.proofs.Common.{◌≡◌, ℕ, ◌⊎◌, List, Some, refl, subst, inl, inr}
 use Rattle.std.specs.List.{slice_get}
 use Rattle.events.specs.declared.name.Name.{Name}
 use Rattle.events.specs.Parts.{NamedEvent, StoredEvent}
-use Rattle.events.specs.WellFormed.{WellFormed}
 use Rattle.fugue.specs.Names.{◌∈◌}
 use Rattle.fugue.specs.Logs.{Behind, log_of, named_in}
 use Rattle.fugue.proofs.Lists.{map_member}

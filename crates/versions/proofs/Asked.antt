@@ -1,15 +1,13 @@
 -- What the difference says of one event against others, and of a version against none.
-use Rattle.std.proofs.Common.{◌≡◌, ℕ, zero, suc, ◌+◌, ◌-◌, ◌<◌, ◌≤◌, ◌⊎◌, ◌↔◌, List, [], ◌∷◌, length, get_or, take, drop, Some, None, sym, refl, ap, ◌∙◌, subst, inl, inr, arith}
+use Rattle.std.proofs.Common.{◌≡◌, ℕ, zero, suc, ◌+◌, ◌-◌, ◌<◌, ◌≤◌, ◌↔◌, List, [], ◌∷◌, length, get_or, take, drop, Some, sym, refl, ap, ◌∙◌, subst, inl, inr, arith}
 use Rattle.std.specs.List.{slice_get}
 use Rattle.std.proofs.lemmas.List.{get_or-drop, length-drop, take_rest}
 use Rattle.std.proofs.lemmas.Option.{slice_get-get_or}
-use Rattle.std.proofs.lemmas.Bool.{cases_eq}
 use Rattle.events.specs.Parts.{StoredEvent}
-use Rattle.versions.specs.Versions.{Head, InVersion, head, parent, OnlyIn, Enumerates}
+use Rattle.versions.specs.Versions.{Head, InVersion, head, parent, OnlyIn}
 use Rattle.versions.specs.Difference.{Known, Differ}
 use Rattle.versions.specs.Questions.{Covered, OneBehind}
 use Rattle.versions.proofs.Sets.{some_is, nth_below}
-use Rattle.versions.proofs.Reached.{enumerates_same}
 
 none_head : (x k : ℕ) → slice_get [] k ≡ Some x → ⊥
 none_head x k h = omega (arith, nth_below [] k x h)

@@ -1,10 +1,9 @@
 -- Where a search ends: nothing is pending, so that what was found is what the versions do not share.
-use Rattle.std.proofs.Common.{◌≡◌, ℕ, ◌+◌, ◌-◌, ◌<◌, ◌≤◌, ◌⊎◌, List, length, get_or, drop, sym, refl, ap, ◌∙◌, subst, inl, inr, arith}
+use Rattle.std.proofs.Common.{◌≡◌, ℕ, ◌+◌, ◌-◌, ◌<◌, ◌≤◌, List, length, get_or, drop, ◌∙◌, arith}
 use Rattle.events.specs.Parts.{StoredEvent}
 use Rattle.events.specs.WellFormed.{WellFormed}
 use Rattle.versions.specs.declared.search.Search.{Search}
-use Rattle.versions.specs.Versions.{OnlyIn, Enumerates}
-use Rattle.versions.specs.Marks.{Marked, one_sided}
+use Rattle.versions.specs.Marks.{one_sided}
 use Rattle.versions.specs.Searches.{marks, Stage}
 use Rattle.versions.specs.Difference.{Known, Differ}
 use Rattle.versions.proofs.Reached.{alone, either, enumerates_same}

@@ -1,17 +1,17 @@
 -- What marking one event leaves, whether it had a mark or not.
-use Rattle.std.proofs.Common.{◌≡◌, ℕ, ◌+◌, ◌-◌, ◌*◌, ◌<◌, ◌≤◌, true, false, cond, not, ◌&&◌, eqb, ltb, ◌⊎◌, List, [], ◌∷◌, ◌++◌, length, get_or, take, drop, set, sum_by, sym, refl, ap, ◌∙◌, subst, inl, inr, arith}
+use Rattle.std.proofs.Common.{◌≡◌, ℕ, ◌+◌, ◌-◌, ◌*◌, ◌<◌, ◌≤◌, cond, not, ◌&&◌, eqb, ltb, List, [], ◌∷◌, ◌++◌, length, get_or, take, set, sum_by, sym, refl, ap, ◌∙◌, inl, inr, arith}
 use Rattle.std.proofs.lemmas.List.{get_or-set_same, get_or-set_other, take-set-le, length-set}
 use Rattle.std.proofs.lemmas.List.Sums.{sum_by_push}
 use Rattle.std.proofs.lemmas.List.Sorted.{sum_by-IsPermutation}
 use Rattle.std.proofs.lemmas.Bool.{cases_eq, eq-eqb, ne_eqb, lt-ltb}
-use Rattle.queue.specs.Heaps.{Heaped, Pushed}
+use Rattle.queue.specs.Heaps.{Pushed}
 use Rattle.versions.specs.declared.search.Search.{Search}
-use Rattle.versions.specs.Marks.{mark_in, marked_below, one_sided, join}
+use Rattle.versions.specs.Marks.{one_sided, join}
 use Rattle.versions.specs.Searches.{marks, copies, open_in, Listed, Queued, Noted}
 use Rattle.versions.proofs.Joins.{join_some, spread_one}
 use Rattle.versions.proofs.Cells.{mark_changed, mark_new}
 use Rattle.versions.proofs.Counts.{marked_same, marked_more, marked_lt, change_none, change_one, hit_yes, hit_no}
-use Rattle.versions.proofs.Queues.{at_behind, seen_le, once_in, once_out, heaped_same, sided_none, share}
+use Rattle.versions.proofs.Queues.{at_behind, seen_le, once_in, once_out, heaped_same, share}
 
 abbrev pub again : Search → ℕ → Search
 again s p = record { room = s.room; seen = s.seen; queued = s.queued; pending = p; first = s.first; second = s.second }

@@ -1,11 +1,11 @@
 -- What the queue of a search holds, and that it does not depend on the cells behind it.
-use Rattle.std.proofs.Common.{◌≡◌, ℕ, ◌+◌, ◌-◌, ◌*◌, ◌<◌, ◌≤◌, true, false, cond, not, ◌&&◌, eqb, ltb, ◌⊎◌, List, [], ◌∷◌, ◌++◌, length, get_or, take, drop, sum_by, sym, refl, ap, ◌∙◌, subst, inl, inr, arith}
+use Rattle.std.proofs.Common.{◌≡◌, ℕ, ◌+◌, ◌-◌, ◌<◌, ◌≤◌, eqb, ltb, List, [], ◌∷◌, length, get_or, take, drop, sym, ap, ◌∙◌, subst, inl, inr, arith}
 use Rattle.std.proofs.lemmas.List.{get_or-drop, length-take-le}
 use Rattle.std.proofs.lemmas.List.Sums.{sum_by-cons}
 use Rattle.std.proofs.lemmas.Bool.{cases_eq, eq-eqb, ne_eqb, lt-ltb, or_from, or_left, or_right}
 use Rattle.queue.specs.Heaps.{Heaped, parent}
 use Rattle.versions.specs.declared.search.Search.{Search}
-use Rattle.versions.specs.Marks.{mark_in, marked_below, one_sided}
+use Rattle.versions.specs.Marks.{one_sided}
 use Rattle.versions.specs.Searches.{marks, copies, open_in, Listed, Queued}
 use Rattle.versions.proofs.Counts.{marked_le, share_le}
 

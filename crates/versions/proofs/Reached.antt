@@ -6,7 +6,7 @@ use Rattle.std.proofs.lemmas.Bool.{cases_lt, cases_eq}
 use Rattle.events.specs.Parts.{StoredEvent}
 use Rattle.events.specs.WellFormed.{WellFormed}
 use Rattle.stores.proofs.Asked.{parent_below}
-use Rattle.versions.specs.Versions.{Head, Parent, InVersion, head, parent, OnlyIn, Enumerates}
+use Rattle.versions.specs.Versions.{Parent, InVersion, head, parent, OnlyIn, Enumerates}
 use Rattle.versions.specs.Marks.{Marked}
 use Rattle.versions.specs.Searches.{Knows}
 

@@ -1,15 +1,13 @@
 -- Marking one event after another, as far as a list of answers goes.
-use Rattle.std.proofs.Common.{◌≡◌, ℕ, zero, suc, ◌+◌, ◌<◌, ◌≤◌, ◌⊎◌, ◌↔◌, List, [], ◌∷◌, length, get_or, Some, None, Option, sym, refl, ap, ◌∙◌, subst, inl, inr, arith}
+use Rattle.std.proofs.Common.{◌≡◌, ℕ, zero, suc, ◌+◌, ◌<◌, ◌≤◌, ◌⊎◌, ◌↔◌, List, [], ◌∷◌, length, Some, None, Option, sym, refl, ap, ◌∙◌, subst, inl, inr, arith}
 use Rattle.std.specs.List.{slice_get}
 use Rattle.std.specs.Option.{option_map, option_flatten}
-use Rattle.std.proofs.lemmas.Option.{slice_get_past}
-use Rattle.std.proofs.lemmas.Bool.{cases_eq, cases_lt}
+use Rattle.std.proofs.lemmas.Bool.{cases_eq}
 use Rattle.events.specs.Parts.{StoredEvent}
 use Rattle.events.specs.WellFormed.{WellFormed}
 use Rattle.stores.specs.Questions.{parent_at}
 use Rattle.versions.specs.declared.search.Search.{Search}
 use Rattle.versions.specs.Versions.{Head, Parent}
-use Rattle.versions.specs.Marks.{Spread}
 use Rattle.versions.specs.Searches.{marks, Listed, Noted, Among}
 use Rattle.versions.proofs.Joins.{spread_more}
 

@@ -1,10 +1,10 @@
 -- Where a search starts: nothing is marked, then the heads are.
-use Rattle.std.proofs.Common.{◌≡◌, ℕ, zero, suc, ◌+◌, ◌-◌, ◌*◌, ◌<◌, ◌≤◌, ◌⊎◌, List, length, get_or, drop, sym, refl, ap, ◌∙◌, subst, inl, inr, arith}
+use Rattle.std.proofs.Common.{◌≡◌, ℕ, zero, suc, ◌+◌, ◌-◌, ◌*◌, ◌≤◌, List, length, get_or, drop, sym, refl, ap, ◌∙◌, subst, inl, inr, arith}
 use Rattle.std.proofs.lemmas.List.{drop-drop}
 use Rattle.std.proofs.lemmas.Bool.{eq-eqb, and_left, le-ltb}
 use Rattle.events.specs.Parts.{StoredEvent}
 use Rattle.versions.specs.declared.search.Search.{Search}
-use Rattle.versions.specs.Versions.{Head, InVersion, head, Enumerates}
+use Rattle.versions.specs.Versions.{Head, head, Enumerates}
 use Rattle.versions.specs.Marks.{Marked, marked_below}
 use Rattle.versions.specs.Searches.{marks, Listed, Queued, Noted, Started, Stage, Knows}
 use Rattle.versions.specs.Difference.{Known}

@@ -1,12 +1,12 @@
 -- One step of the search: the latest event is taken, written down, and its parents are marked.
-use Rattle.std.proofs.Common.{◌≡◌, ℕ, ◌+◌, ◌-◌, ◌*◌, ◌<◌, ◌≤◌, cond, not, ◌&&◌, eqb, ltb, ◌⊎◌, List, length, get_or, take, drop, set, sym, refl, ap, ◌∙◌, subst, inl, inr, arith}
+use Rattle.std.proofs.Common.{◌≡◌, ℕ, ◌+◌, ◌-◌, ◌<◌, ◌≤◌, cond, not, ◌&&◌, eqb, ltb, List, length, get_or, take, drop, set, sym, refl, ap, ◌∙◌, subst, inl, inr, arith}
 use Rattle.std.proofs.lemmas.List.{get_or-set_same, get_or-set_other, take-set-le, length-set, drop-set-lt}
 use Rattle.std.proofs.lemmas.Bool.{cases_eq, cases_lt}
 use Rattle.events.specs.Parts.{StoredEvent}
 use Rattle.events.specs.WellFormed.{WellFormed}
 use Rattle.versions.specs.declared.search.Search.{Search}
-use Rattle.versions.specs.Versions.{Parent, InVersion, parent, Enumerates}
-use Rattle.versions.specs.Marks.{Marked, Spread, one_sided}
+use Rattle.versions.specs.Versions.{Parent, parent, Enumerates}
+use Rattle.versions.specs.Marks.{Marked, one_sided}
 use Rattle.versions.specs.Searches.{marks, copies, open_in, Listed, Queued, Taken, Written, Noted, Knows, Stage, Stepped}
 use Rattle.versions.proofs.Reached.{parent_less, enumerates_same}
 use Rattle.versions.proofs.Cells.{mark_kept}

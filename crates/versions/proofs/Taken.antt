@@ -1,13 +1,13 @@
 -- What taking the latest event from the queue leaves.
-use Rattle.std.proofs.Common.{◌≡◌, ℕ, zero, suc, ◌+◌, ◌-◌, ◌*◌, ◌<◌, ◌≤◌, true, false, cond, not, ◌&&◌, eqb, ltb, ◌⊎◌, List, [], ◌∷◌, ◌++◌, length, get_or, take, drop, sum_by, sym, refl, ap, ◌∙◌, subst, inl, inr, arith}
+use Rattle.std.proofs.Common.{◌≡◌, ℕ, suc, ◌+◌, ◌-◌, ◌<◌, ◌≤◌, cond, not, ◌&&◌, eqb, ltb, List, [], ◌∷◌, ◌++◌, length, get_or, take, sum_by, sym, refl, ap, ◌∙◌, inl, inr, arith}
 use Rattle.std.proofs.lemmas.List.{get_or-take, length-take-le}
 use Rattle.std.proofs.lemmas.List.Sums.{sum_by-cons, sum_by_push}
 use Rattle.std.proofs.lemmas.List.Sorted.{sum_by-IsPermutation}
-use Rattle.std.proofs.lemmas.Bool.{cases_eq, cases_lt, eq-eqb, ne_eqb, lt-ltb, le-ltb, ltb-false, and_right}
+use Rattle.std.proofs.lemmas.Bool.{cases_eq, cases_lt, eq-eqb, lt-ltb, le-ltb, ltb-false, and_right}
 use Rattle.queue.specs.Heaps.{Popped}
 use Rattle.versions.specs.declared.search.Search.{Search}
 use Rattle.versions.specs.Marks.{one_sided}
-use Rattle.versions.specs.Searches.{marks, copies, open_in, Listed, Queued, Taken}
+use Rattle.versions.specs.Searches.{marks, copies, Listed, Queued, Taken}
 use Rattle.versions.proofs.Cells.{mark_kept, mark_some}
 use Rattle.versions.proofs.Counts.{marked_same, hit_yes, hit_no}
 use Rattle.versions.proofs.Queues.{at_behind, seen_le, once_in}

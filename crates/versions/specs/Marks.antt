@@ -4,7 +4,7 @@
 --     one-sided      1 for a mark of one version alone, else 0
 --     mark_in     the mark of an event in a work list
 --     Spread     marks that were joined to those of some events
-use Rattle.std.specs.Prelude.{◌≡◌, ℕ, zero, suc, ◌+◌, ◌*◌, ◌<◌, Bool, cond, not, ◌&&◌, ◌||◌, ◌⊎◌, List, ◌==◌, ◌≢◌, nat_lt, slice_index}
+use Rattle.std.specs.Prelude.{◌≡◌, ℕ, zero, suc, ◌+◌, ◌*◌, ◌<◌, cond, ◌&&◌, ◌||◌, ◌⊎◌, List, ◌==◌, ◌≢◌, nat_lt, slice_index}
 
 -- neither no mark nor that of the other version alone
 abbrev pub Marked : ℕ → ℕ → Type 0

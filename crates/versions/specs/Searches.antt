@@ -10,8 +10,7 @@
 --     Stage      all of it, with what has been found
 --     Started    the heads are marked
 --     Stepped    what a step of the search keeps
-use Rattle.std.specs.Prelude.{◌≡◌, ℕ, ◌+◌, ◌-◌, ◌*◌, ◌<◌, ◌≤◌, Bool, cond, not, ◌&&◌, ltb, List, length, take, drop, Some, sum_by, Option, ◌==◌, ◌≢◌, nat_lt, slice_index, slice_set}
-use Rattle.std.specs.List.{slice_get}
+use Rattle.std.specs.Prelude.{◌≡◌, ℕ, ◌+◌, ◌-◌, ◌*◌, ◌<◌, ◌≤◌, cond, not, ◌&&◌, ltb, List, length, take, drop, Some, sum_by, Option, ◌==◌, ◌≢◌, nat_lt, slice_index, slice_set}
 use Rattle.events.specs.Parts.{StoredEvent}
 use Rattle.queue.specs.Heaps.{Heaped}
 use Rattle.versions.specs.declared.search.Search.{Search}

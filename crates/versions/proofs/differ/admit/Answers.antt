@@ -1,5 +1,5 @@
 -- The refusals in their order.
-use Rattle.std.proofs.Common.{◌≡◌, ℕ, ◌+◌, ◌*◌, ◌<◌, ◌≤◌, ◌⊎◌, length, Some, sym, refl, ap, ◌∙◌, subst, inl, inr, arith}
+use Rattle.std.proofs.Common.{Some, subst, inl, inr, arith}
 use Rattle.versions.specs.Difference.{FirstUnknown, Known}
 use Rattle.versions.proofs.differ.admit.Goals as goal
 

@@ -1,5 +1,5 @@
 -- A call that is not refused is answered.
-use Rattle.std.proofs.Common.{◌≡◌, sym, refl, ap, ◌∙◌, subst}
+use Rattle.std.proofs.Common.{refl}
 use Rattle.std.proofs.lemmas.Result.{err_from_is_err_and}
 use Rattle.versions.proofs.differ.difference.Goals as goal
 

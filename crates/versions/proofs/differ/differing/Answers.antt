@@ -1,5 +1,5 @@
 -- What the search and the copy leave.
-use Rattle.std.proofs.Common.{◌+◌, ◌<◌, ◌≤◌, arith}
+use Rattle.std.proofs.Common.{arith}
 use Rattle.versions.proofs.Ends.{ended}
 use Rattle.versions.proofs.differ.differing.Goals as goal
 

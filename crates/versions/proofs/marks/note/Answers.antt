@@ -1,9 +1,9 @@
 -- The writes mark the event, and queue it where it had no mark.
-use Rattle.std.proofs.Common.{◌≡◌, ℕ, ◌+◌, ◌-◌, ◌*◌, ◌<◌, ◌≤◌, ltb, List, length, set, sym, refl, ap, ◌∙◌, subst, arith}
+use Rattle.std.proofs.Common.{◌≡◌, ℕ, ◌+◌, ◌-◌, ◌*◌, ltb, List, length, set, sym, ap, ◌∙◌, subst, arith}
 use Rattle.std.proofs.lemmas.List.{length-set}
 use Rattle.std.proofs.lemmas.Bool.{lt-ltb}
 use Rattle.queue.specs.Heaps.{Pushed}
-use Rattle.versions.specs.Marks.{join, one_sided}
+use Rattle.versions.specs.Marks.{join}
 use Rattle.versions.specs.Searches.{marks, Noted}
 use Rattle.versions.proofs.Queues.{seen_le, pending_le, sided_none, sided_le}
 use Rattle.versions.proofs.Noted.{again, noted_again, noted_more, room_left, recounted}

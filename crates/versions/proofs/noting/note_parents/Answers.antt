@@ -1,5 +1,5 @@
 -- Each parent is below the event, so that it may be marked.
-use Rattle.std.proofs.Common.{◌≡◌, ℕ, ◌+◌, ◌<◌, ◌≤◌, List, sym, refl, ap, ◌∙◌, subst, arith}
+use Rattle.std.proofs.Common.{◌≡◌, ℕ, List, sym, subst, arith}
 use Rattle.stores.specs.Questions.{parent_at}
 use Rattle.stores.proofs.Asked.{parent_below}
 use Rattle.versions.specs.declared.search.Search.{Search}

@@ -1,5 +1,5 @@
 -- Each step goes on from the stage before, and takes one event more.
-use Rattle.std.proofs.Common.{◌≡◌, ℕ, ◌+◌, ◌-◌, ◌<◌, ◌≤◌, length, drop, sym, refl, ap, ◌∙◌, subst, arith}
+use Rattle.std.proofs.Common.{length, refl, ◌∙◌, arith}
 use Rattle.versions.proofs.Queues.{seen_le, pending_le}
 use Rattle.versions.proofs.Starts.{first_stage, drop_further}
 use Rattle.versions.proofs.run.search.Goals as goal

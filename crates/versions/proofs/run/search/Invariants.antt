@@ -1,5 +1,5 @@
 -- The stage reached, and what the output keeps.
-use Rattle.std.proofs.Common.{◌≡◌, ℕ, ◌+◌, ◌-◌, ◌≤◌, length, drop}
+use Rattle.std.proofs.Common.{◌≡◌, ℕ, ◌+◌, ◌-◌, drop}
 use Rattle.versions.specs.Searches.{Stage}
 use Rattle.versions.proofs.run.search.Given as goal
 

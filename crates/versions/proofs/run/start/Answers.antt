@@ -1,5 +1,5 @@
 -- From nothing marked, the heads of the one version and then of the other.
-use Rattle.std.proofs.Common.{◌≤◌, arith}
+use Rattle.std.proofs.Common.{arith}
 use Rattle.versions.proofs.Starts.{bare_listed, bare_queued, started}
 use Rattle.versions.proofs.run.start.Goals as goal
 

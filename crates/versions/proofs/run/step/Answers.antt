@@ -1,5 +1,5 @@
 -- The three calls of a step, one after another.
-use Rattle.std.proofs.Common.{◌≡◌, ℕ, ◌+◌, ◌<◌, ◌≤◌, List, sym, refl, ap, ◌∙◌, subst, arith}
+use Rattle.std.proofs.Common.{arith}
 use Rattle.versions.proofs.Steps.{between, staged, stepped}
 use Rattle.versions.proofs.run.step.Goals as goal
 
