@@ -6,7 +6,7 @@
 --     Open, Done          the event is not written; it is
 --     ReadyAt             the event is not written and its parents are
 --     Chain               the events that wait in a line, from the first
-use Rattle.std.specs.Prelude.{◌≡◌, ℕ, ◌+◌, ◌*◌, ◌<◌, ◌≤◌, List, [], ◌∷◌, length, get_or, Some, slice_index}
+use Rattle.std.specs.Prelude.{◌≡◌, ℕ, ◌+◌, ◌*◌, ◌<◌, ◌≤◌, List, [], ◌∷◌, length, Some, slice_index}
 use Rattle.events.specs.Parts.{StoredEvent}
 use Rattle.stores.specs.Questions.{parent_at}
 
