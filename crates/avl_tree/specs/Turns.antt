@@ -1,6 +1,6 @@
 -- How a tree is changed: rotations, a put and a revision, over plain trees.
---   turn-right, turn-left     a child comes up
---   raise-left, raise-right   one or two rotations, where that side is too high
+--   turn_right, turn_left     a child comes up
+--   raise_left, raise_right   one or two rotations, where that side is too high
 --   balanced                  a node over two sides whose heights differ by at most two
 --   put                       a new node at a place
 --   revised                   the entry at a place changed

@@ -1,5 +1,5 @@
 -- One entry changed.
-use Rattle.std.proofs.Common.{◌≡◌, ℕ, zero, suc, ◌+◌, ◌<◌, ◌≤◌, List, [], ◌∷◌, ◌++◌, map, length, get_or, set, sym, refl, ap, ◌∙◌, arith}
+use Rattle.std.proofs.Common.{◌≡◌, ℕ, zero, suc, ◌<◌, ◌≤◌, List, [], ◌∷◌, length, get_or, set, refl, ap, arith}
 use Rattle.indexes.specs.declared.entry.Entry.{Entry}
 use Rattle.indexes.specs.Questions.{characters}
 use Rattle.indexes.specs.Changes.{at_place}

@@ -1,9 +1,8 @@
 -- Where the n-th entry that passes a test stands.
-use Rattle.std.proofs.Common.{◌≡◌, ℕ, zero, suc, ◌+◌, ◌-◌, ◌<◌, ◌≤◌, Bool, true, false, cond, List, [], ◌∷◌, ◌++◌, length, get_or, take, Some, None, Option, sym, refl, ap, ◌∙◌, zero-add, one-add, arith}
+use Rattle.std.proofs.Common.{◌≡◌, ℕ, zero, suc, ◌+◌, ◌<◌, ◌≤◌, Bool, true, false, cond, List, [], ◌∷◌, ◌++◌, length, get_or, take, Some, None, Option, sym, refl, ap, ◌∙◌, zero-add, one-add, arith}
 use Rattle.std.proofs.lemmas.Bool.{both_ways}
 use Rattle.indexes.specs.declared.entry.Entry.{Entry}
 use Rattle.indexes.specs.Questions.{bit, count, hit, shifted, find}
-use Rattle.indexes.proofs.Counts.{count_append}
 
 -- behind one entry, where the rest finds its place
 behind : (b : Bool) (rest : ℕ → Option ℕ) (n k : ℕ) → rest n ≡ Some k → cond b (hit (bit b + n) rest) (shifted 1 (rest (bit b + n))) ≡ Some (suc k)

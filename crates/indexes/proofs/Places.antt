@@ -1,5 +1,5 @@
 -- Where a character stands: in a list without doubles, and after a put.
-use Rattle.std.proofs.Common.{◌≡◌, ℕ, zero, suc, ◌+◌, ◌<◌, ◌≤◌, Bool, true, false, cond, not, ◌&&◌, ltb, leb, List, [], ◌∷◌, ◌++◌, length, get_or, take, drop, is_some, Some, None, sym, refl, ap, ◌∙◌, subst, add-zero, arith, ltb-true, le-ltb, lt-ltb, eq-eqb, ne_eqb, le-leb, leb-true}
+use Rattle.std.proofs.Common.{◌≡◌, ℕ, zero, suc, ◌+◌, ◌<◌, ◌≤◌, true, false, not, ◌&&◌, ltb, leb, List, [], ◌∷◌, length, get_or, take, drop, is_some, Some, None, sym, refl, ap, ◌∙◌, subst, add-zero, arith, ltb-true, le-ltb, lt-ltb, eq-eqb, ne_eqb, le-leb, leb-true}
 use borrow.Author.Tests.{lt-leb}
 use Rattle.std.proofs.lemmas.Bool.{and_parts, and_left, and_right, and_from, not-true}
 use Rattle.indexes.specs.Changes.{can_put}
@@ -9,7 +9,7 @@ use Rattle.std.proofs.lemmas.List.{take-map, length-take-le}
 use Rattle.indexes.specs.declared.entry.Entry.{Entry}
 use Rattle.indexes.specs.Entries.{has}
 use Rattle.indexes.specs.Laws.{Distinct, Away, Apart}
-use Rattle.indexes.specs.Questions.{bit, count, find, shifted, characters, place_of}
+use Rattle.indexes.specs.Questions.{count, find, shifted, characters, place_of}
 use Rattle.indexes.proofs.Apart.{apart, away_unfound}
 use Rattle.indexes.proofs.Finds.{find_at, find_none, find_right}
 

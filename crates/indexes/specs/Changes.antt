@@ -1,5 +1,5 @@
 -- What each change does to a list of entries.
---   can-put    whether an entry for a character may go to a place
+--   can_put    whether an entry for a character may go to a place
 --   at_place   one entry changed, nothing beyond the length
 --   trimmed    the entries that are present, as one chain on the right of the root
 use Rattle.std.specs.Prelude.{ℕ, zero, suc, Bool, not, ◌&&◌, List, [], ◌∷◌, length, filter, nat_le, nat_lt}

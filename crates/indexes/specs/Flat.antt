@@ -1,5 +1,5 @@
 -- What a flat index means.
-use Rattle.std.specs.Prelude.{ℕ, List, vec_items, vec_len}
+use Rattle.std.specs.Prelude.{ℕ, List, vec_items}
 use Rattle.std.proofs.Common.{arith}
 use Rattle.indexes.specs.declared.entry.Entry.{Entry}
 use Rattle.indexes.specs.declared.flat.FlatIndex.{FlatIndex}

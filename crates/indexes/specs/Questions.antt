@@ -8,7 +8,7 @@
 use Rattle.std.specs.Prelude.{ℕ, zero, suc, ◌+◌, Bool, cond, List, [], ◌∷◌, map, length, take, is_some, Some, None, Option, nat_le}
 use Rattle.std.specs.Option.{option_map}
 use Rattle.indexes.specs.declared.entry.Entry.{Entry}
-use Rattle.indexes.specs.Entries.{has, is_present}
+use Rattle.indexes.specs.Entries.{has}
 
 abbrev pub characters : List Entry → List ℕ
 characters = map (λ e. e.character)

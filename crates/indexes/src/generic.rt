@@ -23,10 +23,10 @@ pub struct Answers {
 
 /// Asks every question.
 pub fn ask_all<I: PositionIndex>(index: &I, place: usize, n: usize, character: u16) -> Answers
-    ensures sizes { (result.capacity ≡ room index.now) × (result.length ≡ length (entries index.now)) }
-    ensures counts { (result.prepared ≡ count is_prepared (entries index.now)) × (result.present ≡ count is_present (entries index.now)) }
-    ensures places { (result.at_place ≡ slice_get (entries index.now) place) × (result.nth ≡ find is_prepared (entries index.now) n) }
-    ensures finds { (result.place ≡ place_of (entries index.now) character) × (result.before ≡ before is_present (entries index.now) place) }
+    ensures sizes { (result.capacity ≡ I.room index.now) × (result.length ≡ length (I.entries index.now)) }
+    ensures counts { (result.prepared ≡ count is_prepared (I.entries index.now)) × (result.present ≡ count is_present (I.entries index.now)) }
+    ensures places { (result.at_place ≡ slice_get (I.entries index.now) place) × (result.nth ≡ find is_prepared (I.entries index.now) n) }
+    ensures finds { (result.place ≡ place_of (I.entries index.now) character) × (result.before ≡ before is_present (I.entries index.now) place) }
 {
     Answers {
         capacity: index.capacity(),
@@ -42,9 +42,9 @@ pub fn ask_all<I: PositionIndex>(index: &I, place: usize, n: usize, character: u
 
 /// Puts an entry behind all others, and answers where it stands then: absent if it was refused.
 pub fn append<I: PositionIndex>(index: &mut I, entry: Entry) -> Option<usize>
-    ensures answer { result ≡ cond (can_put (entries index.old) (room index.old) (length (entries index.old)) entry.character) (Some (length (entries index.old))) None }
-    ensures after { entries index.new ≡ cond (can_put (entries index.old) (room index.old) (length (entries index.old)) entry.character) (insert (entries index.old) (length (entries index.old)) entry) (entries index.old) }
-    ensures kept { room index.new ≡ room index.old }
+    ensures answer { result ≡ cond (can_put (I.entries index.old) (I.room index.old) (length (I.entries index.old)) entry.character) (Some (length (I.entries index.old))) None }
+    ensures after { I.entries index.new ≡ cond (can_put (I.entries index.old) (I.room index.old) (length (I.entries index.old)) entry.character) (insert (I.entries index.old) (length (I.entries index.old)) entry) (I.entries index.old) }
+    ensures kept { I.room index.new ≡ I.room index.old }
 {
     let end = index.len();
     if index.put(end, entry) {

@@ -1,5 +1,5 @@
-use Rattle.std.proofs.Common.{◌<◌, length, vec_items, sym, ap, ◌∙◌, subst, arith}
-use Rattle.indexes.proofs.Chains.{Trimming, trimming_yes, trimming_no, trimming_all}
+use Rattle.std.proofs.Common.{◌<◌, length, vec_items, sym, ◌∙◌, arith}
+use Rattle.indexes.proofs.Chains.{trimming_yes, trimming_no, trimming_all}
 use Rattle.indexes.proofs.flat.cells.trim_cells.Goals as goal
 use Rattle.indexes.proofs.flat.cells.trim_cells.Goals.{then-is_present, else-is_present}
 

@@ -1,4 +1,4 @@
-use Rattle.std.proofs.Common.{◌≡◌, vec_items, vec_len, vec_capacity}
+use Rattle.std.proofs.Common.{◌≡◌, vec_items, vec_capacity}
 use Rattle.indexes.proofs.Chains.{Trimming}
 use Rattle.indexes.proofs.flat.cells.trim_cells.Given as goal
 

@@ -16,4 +16,9 @@ invariant_of-self c =
     let is = c.insert.ensures.items ∙ cond-true _ (insert xs c.args.place c.args.entry) xs ok in
     let long = c.insert.ensures.len ∙ cond-true _ (vec_len v + 1) (vec_len v) ok in
     let apart = distinct_inserted xs c.args.place c.args.entry (subst (λ r. is_some r ≡ false) c.place_of.ensures.answer (sym c.if-is_some.ensures)) s.distinct in
-    (subst (λ ys. Distinct (characters ys)) (sym is) apart, (omega (arith, long), (omega (arith, (c.insert.ensures.in_place free).1.0, s.reserved), (s.small, tt))))
+    record {
+      distinct = subst (λ ys. Distinct (characters ys)) (sym is) apart;
+      long = omega (arith, long);
+      reserved = omega (arith, (c.insert.ensures.in_place free).1.0, s.reserved);
+      small = s.small;
+    }

@@ -22,7 +22,7 @@ invariant_of-self c =
     let within : c.args.place < length xs = omega (arith, s.cells.ok.0) in
     let is = ap (set xs c.args.place) c.with_effect-entry.ensures ∙ set_at_place f xs c.args.place c.index.result.now within c.index.ensures in
     let same = ap characters is ∙ characters_at_place f (λ _. refl) xs c.args.place in
-    (subst Distinct (sym same) s.distinct, (s.long, (s.reserved, (s.small, tt))))
+    record { distinct = subst Distinct (sym same) s.distinct; long = s.long; reserved = s.reserved; small = s.small }
 
 pub returns : goal.returns
 returns c =

@@ -1,4 +1,4 @@
-use Rattle.std.proofs.Common.{length, vec_items, sym, ap, ◌∙◌, subst, arith}
+use Rattle.std.proofs.Common.{length, vec_items, sym, ap, subst, arith}
 use Rattle.indexes.specs.Laws.{Distinct}
 use Rattle.indexes.specs.Questions.{characters}
 use Rattle.indexes.proofs.Chains.{distinct_trimmed, length_trimmed}
@@ -10,4 +10,9 @@ invariant_of-self c =
     let xs = vec_items s.cells in
     let is = c.trim_cells.ensures.after in
     let long = ap length is in
-    (subst (λ ys. Distinct (characters ys)) (sym is) (distinct_trimmed xs s.distinct), (omega (arith, long, length_trimmed xs, s.long, s.cells.ok.0, c.trim_cells.new.cells.ok.0), (omega (arith, c.trim_cells.ensures.kept, s.reserved), (s.small, tt))))
+    record {
+      distinct = subst (λ ys. Distinct (characters ys)) (sym is) (distinct_trimmed xs s.distinct);
+      long = omega (arith, long, length_trimmed xs, s.long, s.cells.ok.0, c.trim_cells.new.cells.ok.0);
+      reserved = omega (arith, c.trim_cells.ensures.kept, s.reserved);
+      small = s.small;
+    }
