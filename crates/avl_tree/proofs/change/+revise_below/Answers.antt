@@ -35,8 +35,8 @@ pub tie-requires : goal.tie-requires
 tie-requires t c =
     ready_revised_left (applied c.args.change) (vec_items c.args.nodes.now) c.args.link c.in-Some.j c.index-node.result.now c.in-Some.is c.index-node.ensures (vec_items c.revise_below.new.nodes) c.args.place c.revise_below.ensures.after c.requires.0 c.requires.1
 
-pub index-mut-requires : goal.index-mut-requires
-index-mut-requires t c =
+pub index_mut-requires : goal.index_mut-requires
+index_mut-requires t c =
     let v = c.args.nodes.now in
     omega (arith, link_within (vec_items v) c.args.link c.requires.0 c.requires.1.held c.in-Some.j c.in-Some.is, v.ok.0)
 

@@ -49,7 +49,7 @@ returns-in-Some t c =
           let o = rooted (vec_items c.args.nodes.now) c.args.link u h c.in-Some.j c.index-node.result.now c.in-Some.is c.index-node.ensures in
           let first = c.collect_below.ensures.after o.lower (lefts o) in
           let second = c.push_reserved.ensures.items ∙ ap (λ es. es ++ c.index-node.result.now.entry ∷ []) first in
-          let own = ap (λ (m : Node). (out ++ entries o.lower) ++ m.entry ∷ []) o.cell-is in
+          let own = ap (λ (m : Node). (out ++ entries o.lower) ++ m.entry ∷ []) o.cell_is in
           c.collect_below-in-Some.ensures.after o.upper (rights o) ∙ ap (λ es. es ++ entries o.upper) (second ∙ own) ∙ append_assoc (out ++ entries o.lower) (o.entry ∷ []) (entries o.upper) ∙ append_assoc out (entries o.lower) (o.entry ∷ entries o.upper) ∙ sym (ap (λ v. out ++ entries v) o.is);
       kept = c.collect_below-in-Some.ensures.kept ∙ c.push_reserved.ensures.capacity ∙ c.collect_below.ensures.kept;
     }

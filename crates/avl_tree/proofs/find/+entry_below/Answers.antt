@@ -45,7 +45,7 @@ pub returns-then-place-before-2 : goal.returns-then-place-before-2
 returns-then-place-before-2 t c u h =
     let o = rooted (vec_items c.args.nodes.now) c.args.link u h c.in-Some.j c.index-node.result.now c.in-Some.is c.index-node.ensures in
     let n = ap (λ (w : Weight). w.size) (c.weight_of-before.ensures o.lower (lefts o)) in
-    ap (λ (m : Node). Some m.entry) o.cell-is ∙ sym (ap (λ v. slice_get (entries v) c.args.place) o.is ∙ nth_mid (entries o.lower) o.entry (entries o.upper) c.args.place (omega (arith, n, size_entries o.lower, c.if-place-before-2.true)))
+    ap (λ (m : Node). Some m.entry) o.cell_is ∙ sym (ap (λ v. slice_get (entries v) c.args.place) o.is ∙ nth_mid (entries o.lower) o.entry (entries o.upper) c.args.place (omega (arith, n, size_entries o.lower, c.if-place-before-2.true)))
 
 pub returns-else-place-before-2 : goal.returns-else-place-before-2
 returns-else-place-before-2 t c u h =

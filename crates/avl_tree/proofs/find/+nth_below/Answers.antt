@@ -56,7 +56,7 @@ returns-then-not-prepared_here t c u h =
     let m = ap (λ (w : Weight). w.prepared) (c.weight_of-left.ensures o.lower (lefts o)) in
     let xs = entries o.lower in
     let ys = entries o.upper in
-    let not-here = sym (c.if-not-prepared_here.ensures ∙ ap (λ (d : Node). is_prepared d.entry) o.cell-is) in
+    let not-here = sym (c.if-not-prepared_here.ensures ∙ ap (λ (d : Node). is_prepared d.entry) o.cell_is) in
     let none = ap bit not-here in
     let rest = c.args.n - c.weight_of-left.result.prepared in
     let found = find_behind is_prepared xs o.entry ys c.args.n rest (omega (arith, m, prepared_entries o.lower, none, c.if-n-before.false)) in
@@ -68,7 +68,7 @@ returns-then-n-before-2 t c u h =
     let n = ap (λ (w : Weight). w.size) (c.weight_of-left.ensures o.lower (lefts o)) in
     let m = ap (λ (w : Weight). w.prepared) (c.weight_of-left.ensures o.lower (lefts o)) in
     let xs = entries o.lower in
-    let is-here = sym (c.if-not-prepared_here.ensures ∙ ap (λ (d : Node). is_prepared d.entry) o.cell-is) in
+    let is-here = sym (c.if-not-prepared_here.ensures ∙ ap (λ (d : Node). is_prepared d.entry) o.cell_is) in
     let found = find_mid is_prepared xs o.entry (entries o.upper) c.args.n (omega (arith, m, prepared_entries o.lower, c.if-n-before-2.true)) is-here in
     ap (λ k. Some (c.args.offset + k)) (n ∙ size_entries o.lower) ∙ sym (ap (shifted c.args.offset) (ap (λ v. find is_prepared (entries v) c.args.n) o.is ∙ found))
 
@@ -79,7 +79,7 @@ returns-else-n-before-2 t c u h =
     let m = ap (λ (w : Weight). w.prepared) (c.weight_of-left.ensures o.lower (lefts o)) in
     let xs = entries o.lower in
     let ys = entries o.upper in
-    let is-here = sym (c.if-not-prepared_here.ensures ∙ ap (λ (d : Node). is_prepared d.entry) o.cell-is) in
+    let is-here = sym (c.if-not-prepared_here.ensures ∙ ap (λ (d : Node). is_prepared d.entry) o.cell_is) in
     let one = ap bit is-here in
     let rest = c.args.n - c.weight_of-left.result.prepared - 1 in
     let found = find_behind is_prepared xs o.entry ys c.args.n rest (omega (arith, m, prepared_entries o.lower, one, c.if-n-before.false, c.if-n-before-2.false)) in

@@ -64,7 +64,7 @@ returns-else-place-before t c u h =
     let ys = entries o.upper in
     let past : length xs < c.args.place = omega (arith, n, size_entries o.lower, c.if-place-before.false) in
     let rest = ap (λ k. count is_present (take (c.args.place - k - 1) ys)) (n ∙ size_entries o.lower) in
-    let own = c.present_bit-own.ensures ∙ ap (λ (d : Node). bit (is_present d.entry)) o.cell-is in
+    let own = c.present_bit-own.ensures ∙ ap (λ (d : Node). bit (is_present d.entry)) o.cell_is in
     let all = ap (λ v. count is_present (take c.args.place (entries v))) o.is ∙ count_right is_present xs o.entry ys c.args.place past in
     let part = c.present_below-in-Some.ensures o.upper (rights o) ∙ rest in
     omega (arith, all, part, own, m, present_entries o.lower)

@@ -26,8 +26,8 @@ join-weight-requires c =
     let bn = ap (λ (w : Weight). w.size) b in
     record { a = subst Sane (sym a) (sane l); b = subst Sane (sym b) (sane r); small = omega (arith, an, bn, s.small) }
 
-pub index-mut-requires : goal.index-mut-requires
-index-mut-requires c =
+pub index_mut-requires : goal.index_mut-requires
+index_mut-requires c =
     let v = c.args.nodes.now in
     let s = c.requires.3 in
     omega (arith, nth_within (vec_items v) c.args.j s.old s.at, v.ok.0)
@@ -59,7 +59,7 @@ returns c =
     let weighs : (l : Tree) (e : Entry) (r : Tree) → Sides ns left right l j e r → w ≡ joined (weight l) e (weight r) =
     λ l e r s.
     c.join-weight.ensures ∙ ap (λ x. joined x n.entry c.weight_of-2.result) (c.weight_of.ensures l s.lower)
-    ∙ ap (λ (x : Entry). joined (weight l) x c.weight_of-2.result) (ap (λ (m : Node). m.entry) (read_is ns j s.old n s.at c.index-node.ensures) ∙ s.entry-is)
+    ∙ ap (λ (x : Entry). joined (weight l) x c.weight_of-2.result) (ap (λ (m : Node). m.entry) (read_is ns j s.old n s.at c.index-node.ensures) ∙ s.entry_is)
     ∙ ap (λ x. joined (weight l) e x) (c.weight_of-2.ensures r s.upper) in
     record {
       after =
