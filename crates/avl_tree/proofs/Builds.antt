@@ -1,5 +1,5 @@
 -- A tree over two runs and the node between them.
-use Rattle.std.proofs.Common.{◌≡◌, ℕ, zero, suc, ◌+◌, ◌-◌, ◌*◌, ◌^◌, ◌<◌, ◌≤◌, max, ◌⊎◌, List, [], ◌∷◌, ◌++◌, length, Some, None, Option, sym, refl, ap, ◌∙◌, subst, inl, inr, arith, pow_mono}
+use Rattle.std.proofs.Common.{◌≡◌, ℕ, zero, suc, ◌+◌, ◌*◌, ◌^◌, ◌<◌, ◌≤◌, max, ◌⊎◌, List, [], ◌∷◌, ◌++◌, length, Some, None, Option, sym, refl, ap, ◌∙◌, subst, inl, inr, arith, pow_mono}
 use native.Mathlib.Nat.{pow-succ'}
 use Rattle.std.proofs.lemmas.Bool.{cases_lt}
 use lib.ListN.{length-map}
@@ -7,11 +7,11 @@ use Rattle.std.specs.List.{slice_get}
 use Rattle.indexes.specs.Laws.{Away, Apart}
 use Rattle.avl_tree.specs.declared.node.Node.{Node}
 use Rattle.avl_tree.specs.Builds.{range, Builds}
-use Rattle.avl_tree.specs.Nodes.{Held, Sides, Kept, Makes, Ready, held_entries}
-use Rattle.avl_tree.specs.Tree.{Tree, leaf, node, numbers, size, height, Even}
+use Rattle.avl_tree.specs.Nodes.{Sides, Makes, Ready, held_entries}
+use Rattle.avl_tree.specs.Tree.{leaf, node, numbers, size, height}
 use Rattle.avl_tree.proofs.Cells.{held_kept}
 use Rattle.avl_tree.proofs.Lists.{Disjoint, away_parts}
-use Rattle.avl_tree.proofs.Ranges.{length_range, away_above, away_below, apart_range, disjoint_runs, range_split}
+use Rattle.avl_tree.proofs.Ranges.{length_range, apart_range, disjoint_runs, range_split}
 use Rattle.avl_tree.proofs.Sizes.{size_numbers}
 
 pub build_none : (ns : List Node) (from : ℕ) → Builds ns ns from 0 None

@@ -1,5 +1,5 @@
 -- Nodes by number: what a write changes, and that a tree is held as long as its own nodes stay.
-use Rattle.std.proofs.Common.{◌≡◌, ℕ, zero, suc, ◌+◌, ◌<◌, ◌≤◌, List, [], ◌∷◌, ◌++◌, map, length, get_or, set, Some, None, Option, sym, refl, ap, ◌∙◌, arith}
+use Rattle.std.proofs.Common.{◌≡◌, ℕ, zero, suc, ◌<◌, List, [], ◌∷◌, length, get_or, set, Some, Option, refl, ap, ◌∙◌, arith}
 use Rattle.std.specs.List.{AllByRecursion as All, slice_get}
 use Rattle.std.proofs.ByRecursion.{All-weaker}
 use Rattle.indexes.specs.Laws.{Away}

@@ -1,6 +1,6 @@
 -- One step up: the parent of a subtree, and on which side of it the subtree stands.
-use Rattle.std.proofs.Common.{◌≡◌, ℕ, ◌+◌, ◌-◌, ◌<◌, ◌≤◌, Bool, true, false, eqb, ◌⊎◌, List, [], ◌∷◌, ◌++◌, length, get_or, Some, None, Option, sym, refl, ap, ◌∙◌, subst, inl, inr, arith, eq-eqb, eqb-true}
-use Rattle.std.specs.List.{slice_get, AllByRecursion as All}
+use Rattle.std.proofs.Common.{◌≡◌, ℕ, ◌+◌, ◌-◌, ◌<◌, ◌≤◌, true, false, ◌⊎◌, List, ◌∷◌, ◌++◌, length, get_or, Some, None, Option, sym, refl, ap, ◌∙◌, subst, inl, inr, arith, eq-eqb, eqb-true}
+use Rattle.std.specs.List.{slice_get}
 use Rattle.indexes.specs.Laws.{Away, Apart}
 use Rattle.indexes.specs.declared.entry.Entry.{Entry}
 use Rattle.avl_tree.specs.declared.node.Node.{Node}
@@ -9,7 +9,7 @@ use Rattle.avl_tree.specs.Links.{is_link}
 use Rattle.avl_tree.specs.Nodes.{cell, Holds, Held}
 use Rattle.avl_tree.specs.Tree.{Tree, leaf, node, entries, numbers, size, top}
 use Rattle.avl_tree.proofs.Cells.{nth_within, read_is}
-use Rattle.avl_tree.proofs.Lists.{Parts, parts, Disjoint, all_left, all_right}
+use Rattle.avl_tree.proofs.Lists.{parts, all_right}
 use Rattle.avl_tree.proofs.Sizes.{size_entries}
 use Rattle.avl_tree.proofs.Steps.{nth_left, nth_mid, nth_right}
 

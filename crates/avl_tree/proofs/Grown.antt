@@ -1,15 +1,15 @@
 -- The nodes' tree is the one that they hold, and the shape of an index says that they hold it.
-use Rattle.std.proofs.Common.{◌≡◌, ℕ, zero, suc, ◌+◌, ◌<◌, ◌≤◌, max, Bool, true, false, ◌&&◌, ◌||◌, eqb, leb, ◌⊎◌, List, [], ◌∷◌, ◌++◌, map, length, Some, None, Option, sym, refl, ap, ◌∙◌, subst, inl, inr, arith, length-append, eq-eqb, eqb-true, le-leb, leb-true}
+use Rattle.std.proofs.Common.{◌≡◌, ℕ, zero, suc, ◌+◌, ◌<◌, ◌≤◌, true, ◌&&◌, leb, List, [], ◌∷◌, ◌++◌, map, length, Some, None, Option, sym, refl, ap, ◌∙◌, subst, arith, length-append, le-leb, leb-true}
 use lib.ListN.{length-map}
-use Rattle.std.specs.List.{AllByRecursion as All, slice_get}
+use Rattle.std.specs.List.{slice_get}
 use Rattle.std.proofs.lemmas.List.{map-append}
 use Rattle.std.proofs.lemmas.Bool.{and_parts, and_from}
 use Rattle.indexes.specs.Laws.{Distinct, Apart}
 use Rattle.indexes.proofs.Apart.{apart, distinct}
 use Rattle.avl_tree.specs.declared.node.Node.{Node}
-use Rattle.avl_tree.specs.Nodes.{cell, Holds, Held, Stood}
+use Rattle.avl_tree.specs.Nodes.{cell, Holds, Held}
 use Rattle.avl_tree.specs.Shape.{grown, tree_of, cells, member, even, Rooted, Stored, Covered}
-use Rattle.avl_tree.specs.Tree.{Tree, leaf, node, entries, numbers, size, height, top, Even}
+use Rattle.avl_tree.specs.Tree.{Tree, leaf, node, numbers, size, height, top, Even}
 use Rattle.avl_tree.proofs.Sizes.{sane}
 
 -- followed deep enough, the nodes of a tree give the tree

@@ -1,8 +1,8 @@
 -- An index with one node more holds the tree with that node put in.
-use Rattle.std.proofs.Common.{◌≡◌, ℕ, zero, suc, ◌+◌, ◌<◌, ◌≤◌, Bool, true, false, ◌||◌, eqb, ◌⊎◌, List, [], ◌∷◌, ◌++◌, map, length, set, Some, None, Option, sym, refl, ap, ◌∙◌, subst, inl, inr, arith, length-append, eq-eqb}
+use Rattle.std.proofs.Common.{◌≡◌, ℕ, zero, suc, ◌+◌, ◌<◌, ◌≤◌, true, eqb, List, [], ◌∷◌, ◌++◌, length, set, Some, None, Option, sym, refl, ap, ◌∙◌, subst, inl, inr, arith, length-append, eq-eqb}
 use lib.ListN.{length-map}
 use Rattle.std.proofs.lemmas.List.{map-append}
-use Rattle.std.specs.List.{insert, AllByRecursion as All, slice_get}
+use Rattle.std.specs.List.{insert, slice_get}
 use Rattle.std.proofs.ByRecursion.{All-append}
 use Rattle.std.proofs.lemmas.Bool.{or_cases, or_left, or_right, cases_lt}
 use Rattle.indexes.specs.Laws.{Away, Apart}
@@ -10,14 +10,14 @@ use Rattle.indexes.specs.Questions.{characters}
 use Rattle.indexes.specs.declared.entry.Entry.{Entry}
 use Rattle.indexes.proofs.Apart.{apart_inserted}
 use Rattle.avl_tree.specs.declared.node.Node.{Node}
-use Rattle.avl_tree.specs.Nodes.{cell, Holds, Held, Sprout, Puts, Stood, Revises, adopted, held_entries}
+use Rattle.avl_tree.specs.Nodes.{cell, Holds, Sprout, Puts, Stood, Revises, adopted, held_entries}
 use Rattle.avl_tree.specs.Shape.{member, Named}
-use Rattle.avl_tree.specs.Tree.{Tree, leaf, node, entries, numbers, size, top}
+use Rattle.avl_tree.specs.Tree.{Tree, leaf, node, numbers, size}
 use Rattle.avl_tree.specs.Turns.{put, revised}
 use Rattle.avl_tree.proofs.Builds.{same_length}
 use Rattle.avl_tree.proofs.Cells.{nth_within}
 use Rattle.avl_tree.proofs.Evens.{put_even}
-use Rattle.avl_tree.proofs.Grown.{Whole, held_whole}
+use Rattle.avl_tree.proofs.Grown.{Whole}
 use Rattle.avl_tree.proofs.Puts.{inserts}
 use Rattle.avl_tree.proofs.Revises.{revising}
 use Rattle.avl_tree.proofs.Steps.{nth_left, nth_mid}

@@ -1,10 +1,10 @@
 -- A put into a tree is a put into its in-order lists.
-use Rattle.std.proofs.Common.{◌≡◌, ℕ, zero, suc, ◌+◌, ◌-◌, ◌<◌, ◌≤◌, Bool, true, false, cond, leb, List, [], ◌∷◌, ◌++◌, length, sym, refl, ap, ◌∙◌, subst, arith, leb-false, leb-true}
+use Rattle.std.proofs.Common.{◌≡◌, ℕ, zero, suc, ◌+◌, ◌-◌, ◌<◌, ◌≤◌, Bool, true, false, cond, leb, List, [], ◌∷◌, ◌++◌, length, sym, refl, ap, ◌∙◌, arith, leb-false, leb-true}
 use Rattle.std.specs.List.{insert}
 use Rattle.indexes.specs.declared.entry.Entry.{Entry}
 use Rattle.avl_tree.specs.Tree.{Tree, leaf, node, entries, numbers, size}
 use Rattle.avl_tree.specs.Turns.{balanced, put}
-use Rattle.avl_tree.proofs.Keeps.{Lists, balanced_lists}
+use Rattle.avl_tree.proofs.Keeps.{balanced_lists}
 use Rattle.avl_tree.proofs.Sizes.{size_entries, size_numbers}
 
 pub insert_left : {X : Type 0} (xs ys : List X) (i : ℕ) (x : X) → i ≤ length xs → insert (xs ++ ys) i x ≡ insert xs i x ++ ys

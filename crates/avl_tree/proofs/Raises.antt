@@ -1,14 +1,14 @@
 -- A side that is too high is raised: what one or two rotations make.
-use Rattle.std.proofs.Common.{◌≡◌, ℕ, ◌+◌, ◌<◌, Bool, true, false, cond, ltb, List, [], ◌∷◌, ◌++◌, get_or, Some, None, Option, sym, refl, ap, ◌∙◌, subst, arith}
+use Rattle.std.proofs.Common.{◌≡◌, ℕ, ◌+◌, true, false, ltb, List, ◌∷◌, ◌++◌, get_or, Some, Option, sym, ap, ◌∙◌, subst, arith}
 use Rattle.std.proofs.lemmas.Bool.{cond-true, cond-false}
 use Rattle.indexes.specs.Laws.{Away, Apart}
 use Rattle.indexes.specs.declared.entry.Entry.{Entry}
 use Rattle.avl_tree.specs.declared.node.Node.{Node}
-use Rattle.avl_tree.specs.Nodes.{Held, Sides, Kept, Makes, Ready}
-use Rattle.avl_tree.specs.Tree.{Tree, leaf, node, numbers, size, height, top}
-use Rattle.avl_tree.specs.Turns.{turn_right, turn_left, raise_left, raise_right, balanced}
+use Rattle.avl_tree.specs.Nodes.{Held, Sides, Makes, Ready}
+use Rattle.avl_tree.specs.Tree.{Tree, node, numbers, size, height}
+use Rattle.avl_tree.specs.Turns.{turn_right, turn_left, raise_left, raise_right}
 use Rattle.avl_tree.proofs.Keeps.{turn_left_lists, turn_right_lists}
-use Rattle.avl_tree.proofs.Lists.{Disjoint, Parts, parts, away_parts, disjoint_sym}
+use Rattle.avl_tree.proofs.Lists.{parts, away_parts, disjoint_sym}
 use Rattle.avl_tree.proofs.Turns.{Left, Right, open_left, open_right, inside, swap_left, swap_right, makes_by}
 
 -- a way of joining keeps the numbers and their count

@@ -1,5 +1,5 @@
 -- Entries laid out as nodes, and the tree built of them.
-use Rattle.std.proofs.Common.{◌≡◌, ℕ, zero, suc, ◌+◌, ◌<◌, ◌≤◌, Bool, true, false, ◌||◌, eqb, ◌⊎◌, List, [], ◌∷◌, ◌++◌, map, length, get_or, take, set, Some, None, Option, sym, refl, ap, ◌∙◌, subst, inl, inr, arith, eq-eqb}
+use Rattle.std.proofs.Common.{◌≡◌, ℕ, zero, suc, ◌+◌, ◌<◌, ◌≤◌, true, eqb, List, [], ◌∷◌, ◌++◌, map, length, get_or, take, set, Some, None, Option, sym, refl, ap, ◌∙◌, subst, inl, inr, arith, eq-eqb}
 use lib.ListN.{length-map}
 use Rattle.std.specs.List.{slice_get}
 use Rattle.std.proofs.lemmas.List.{map-append, take_more, take-map, get_or-map, get_or-take, length-take-le}
@@ -9,9 +9,9 @@ use Rattle.indexes.specs.Questions.{characters}
 use Rattle.indexes.specs.declared.entry.Entry.{Entry}
 use Rattle.avl_tree.specs.declared.node.Node.{Node}
 use Rattle.avl_tree.specs.Builds.{range, Builds}
-use Rattle.avl_tree.specs.Nodes.{cell, Holds, Held, adopted, held_entries}
+use Rattle.avl_tree.specs.Nodes.{cell, Holds, adopted, held_entries}
 use Rattle.avl_tree.specs.Shape.{member, Named}
-use Rattle.avl_tree.specs.Tree.{Tree, leaf, node, entries, numbers, size, top}
+use Rattle.avl_tree.specs.Tree.{Tree, leaf, node, entries, numbers}
 use Rattle.avl_tree.proofs.Builds.{same_length}
 use Rattle.avl_tree.proofs.Cells.{nth_within}
 use Rattle.avl_tree.proofs.Grown.{Whole}
@@ -20,7 +20,7 @@ use Rattle.avl_tree.proofs.Names.{nth_map}
 use Rattle.avl_tree.proofs.Ranges.{length_range, apart_range, nth_range}
 use Rattle.avl_tree.proofs.Seeks.{nth_get}
 use Rattle.avl_tree.proofs.Sizes.{size_numbers}
-use Rattle.avl_tree.proofs.Ties.{adopt_self, length_adopted, entries_adopted}
+use Rattle.avl_tree.proofs.Ties.{adopt_self, length_adopted}
 
 -- in a list without doubles an element is not among those before it
 fresh : (cs : List ℕ) (i : ℕ) → Distinct cs → i < length cs → (k : ℕ) → slice_get (take i cs) k ≡ Some (get_or cs i 0) → ⊥

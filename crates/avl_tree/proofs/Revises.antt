@@ -1,19 +1,17 @@
 -- A revision of a tree: what it does to the in-order lists and the heights, and how nodes hold it.
-use Rattle.std.proofs.Common.{◌≡◌, ℕ, zero, suc, ◌+◌, ◌-◌, ◌<◌, ◌≤◌, max, Bool, true, false, cond, eqb, ltb, List, [], ◌∷◌, ◌++◌, map, length, get_or, set, Some, None, Option, sym, refl, ap, ◌∙◌, subst, arith, ltb-false, ltb-true, le-ltb, lt-ltb, eq-eqb, ne_eqb, eqb-true}
+use Rattle.std.proofs.Common.{◌≡◌, ℕ, zero, suc, ◌+◌, ◌-◌, ◌<◌, max, Bool, true, false, cond, eqb, ltb, List, [], ◌∷◌, ◌++◌, get_or, Some, Option, sym, refl, ap, ◌∙◌, subst, arith, ltb-false, ltb-true, le-ltb, lt-ltb, eq-eqb, ne_eqb, eqb-true}
 use borrow.Author.Tests.{eqb-false}
-use Rattle.std.specs.List.{slice_get}
 use Rattle.std.proofs.lemmas.Bool.{cond-true, cond-false}
-use Rattle.std.proofs.ByRecursion.{All-weaker}
 use Rattle.indexes.specs.Changes.{at_place}
 use Rattle.indexes.specs.Laws.{Away, Apart}
 use Rattle.indexes.specs.Questions.{characters}
 use Rattle.indexes.specs.declared.entry.Entry.{Entry}
 use Rattle.avl_tree.specs.declared.node.Node.{Node}
-use Rattle.avl_tree.specs.Nodes.{cell, altered, Holds, Held, Sides, Kept, Makes, Ready, Stood, Revises, held_entries}
+use Rattle.avl_tree.specs.Nodes.{altered, Held, Sides, Kept, Makes, Ready, Stood, Revises, held_entries}
 use Rattle.avl_tree.specs.Tree.{Tree, leaf, node, entries, numbers, size, height, Even}
 use Rattle.avl_tree.specs.Turns.{revised}
-use Rattle.avl_tree.proofs.Lists.{Disjoint, Parts, parts, away_parts, disjoint_sym}
-use Rattle.avl_tree.proofs.Cells.{altered_same, altered_other, set_altered, held_kept}
+use Rattle.avl_tree.proofs.Lists.{parts, away_parts, disjoint_sym}
+use Rattle.avl_tree.proofs.Cells.{altered_same, altered_other, held_kept}
 use Rattle.avl_tree.proofs.Sizes.{size_entries}
 use Rattle.avl_tree.proofs.Steps.{change_left, change_mid, change_right}
 use Rattle.avl_tree.proofs.Turns.{swap_left, swap_right}

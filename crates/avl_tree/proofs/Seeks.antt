@@ -1,5 +1,5 @@
 -- Where the node of a character stands, and a character that has none.
-use Rattle.std.proofs.Common.{◌≡◌, ℕ, zero, suc, ◌+◌, ◌<◌, ◌≤◌, List, [], ◌∷◌, ◌++◌, map, length, get_or, Some, None, vec_items, vec_len, Option, sym, refl, ap, ◌∙◌, subst, arith}
+use Rattle.std.proofs.Common.{◌≡◌, ℕ, zero, suc, ◌+◌, ◌<◌, ◌≤◌, List, [], ◌∷◌, length, get_or, Some, Option, sym, refl, ap, ◌∙◌, arith}
 use lib.ListN.{length-map}
 use Rattle.avl_tree.proofs.Builds.{nth_some}
 use Rattle.std.specs.List.{slice_get}
@@ -8,15 +8,13 @@ use Rattle.indexes.specs.Questions.{characters, place_of}
 use Rattle.indexes.specs.declared.entry.Entry.{Entry}
 use Rattle.indexes.proofs.Places.{place_of_at}
 use Rattle.avl_tree.specs.declared.node.Node.{Node}
-use Rattle.avl_tree.specs.Climb.{Found, Climbs}
-use Rattle.avl_tree.specs.Nodes.{cell, Holds, Held, held_entries}
-use Rattle.avl_tree.specs.Shape.{Named}
-use Rattle.avl_tree.specs.Tree.{Tree, node, entries, numbers, size, top}
+use Rattle.avl_tree.specs.Climb.{Climbs}
+use Rattle.avl_tree.specs.Nodes.{cell, Held, held_entries}
+use Rattle.avl_tree.specs.Tree.{Tree, node, entries, size}
 use Rattle.avl_tree.proofs.Cells.{nth_within, read_is}
 use Rattle.avl_tree.proofs.Climbs.{climb_held, found_entry}
 use Rattle.avl_tree.proofs.Grown.{Whole}
-use Rattle.avl_tree.proofs.Names.{spot, name_at_lem, unlisted}
-use Rattle.avl_tree.proofs.Sizes.{size_entries}
+use Rattle.avl_tree.proofs.Names.{spot, name_at_lem}
 
 pub record Located (ns : List Node) (t : Tree) (i : ℕ) (n : Node) : Type 0 where
   pub lower : Tree

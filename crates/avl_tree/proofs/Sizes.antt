@@ -1,10 +1,10 @@
 -- What the weight of a tree says of its entries.
-use Rattle.std.proofs.Common.{◌≡◌, ℕ, ◌+◌, ◌<◌, ◌≤◌, max, Bool, List, [], ◌∷◌, ◌++◌, length, sym, refl, ap, ◌∙◌, arith, length-append}
+use Rattle.std.proofs.Common.{◌≡◌, ◌∷◌, length, refl, arith, length-append}
 use Rattle.indexes.specs.Entries.{is_prepared, is_present}
-use Rattle.indexes.specs.Questions.{count, bit}
+use Rattle.indexes.specs.Questions.{count}
 use Rattle.indexes.proofs.Counts.{count_append, bit_small}
 use Rattle.avl_tree.specs.Nodes.{Sane}
-use Rattle.avl_tree.specs.Tree.{Tree, leaf, node, entries, numbers, weight, height, size}
+use Rattle.avl_tree.specs.Tree.{Tree, leaf, node, entries, numbers, weight, size}
 
 pub size_entries : (t : Tree) → size t ≡ length (entries t)
 size_entries leaf = refl

@@ -1,20 +1,20 @@
 -- What a put below a root makes, from what it makes on one side.
-use Rattle.std.proofs.Common.{◌≡◌, ℕ, ◌+◌, ◌-◌, ◌<◌, ◌≤◌, Bool, true, false, cond, leb, List, [], ◌∷◌, ◌++◌, length, get_or, Some, None, Option, sym, refl, ap, ◌∙◌, subst, arith, le-leb}
+use Rattle.std.proofs.Common.{◌≡◌, ℕ, ◌-◌, ◌<◌, ◌≤◌, leb, List, ◌∷◌, ◌++◌, length, get_or, Some, None, Option, sym, refl, ap, ◌∙◌, subst, arith, le-leb}
 use borrow.Author.Tests.{lt-leb}
 use Rattle.std.specs.List.{insert}
 use Rattle.std.proofs.lemmas.Bool.{cond-true, cond-false}
-use Rattle.indexes.specs.Laws.{Away, Apart}
+use Rattle.indexes.specs.Laws.{Away}
 use Rattle.indexes.specs.declared.entry.Entry.{Entry}
 use Rattle.indexes.proofs.Apart.{away_inserted}
 use Rattle.avl_tree.specs.declared.node.Node.{Node}
-use Rattle.avl_tree.specs.Nodes.{Held, Sides, Kept, Makes, Ready, Sprout, Puts}
+use Rattle.avl_tree.specs.Nodes.{Held, Makes, Ready, Sprout, Puts}
 use Rattle.avl_tree.specs.Tree.{Tree, leaf, node, numbers, size}
 use Rattle.avl_tree.specs.Turns.{balanced, put}
 use Rattle.avl_tree.proofs.Lists.{away_parts}
-use Rattle.avl_tree.proofs.Puts.{Inserts, inserts, insert_left, insert_right}
+use Rattle.avl_tree.proofs.Puts.{inserts, insert_left, insert_right}
 use Rattle.avl_tree.proofs.Sizes.{size_numbers}
-use Rattle.avl_tree.proofs.Weighs.{lefts, rights}
-use Rattle.avl_tree.proofs.Sprouts.{root_of, at_root, sprout_left, sprout_right, sides_left, sides_right}
+use Rattle.avl_tree.proofs.Weighs.{lefts}
+use Rattle.avl_tree.proofs.Sprouts.{root_of, sprout_left, sprout_right, sides_left, sides_right}
 
 -- the new node alone
 pub put_none : (ns : List Node) (link : Option ℕ) (place new : ℕ) → link ≡ None → Puts ns ns link place new new

@@ -1,18 +1,16 @@
 -- A new node is put below a root: on its left, and on its right.
-use Rattle.std.proofs.Common.{◌≡◌, ℕ, ◌+◌, ◌-◌, ◌<◌, ◌≤◌, Bool, true, false, cond, leb, List, [], ◌∷◌, ◌++◌, length, get_or, Some, None, Option, sym, refl, ap, ◌∙◌, subst, arith, le-leb}
-use borrow.Author.Tests.{lt-leb}
-use Rattle.std.specs.List.{insert, AllByRecursion as All}
+use Rattle.std.proofs.Common.{◌≡◌, ℕ, ◌-◌, ◌<◌, ◌≤◌, List, ◌∷◌, ◌++◌, length, get_or, Some, Option, sym, ap, ◌∙◌, subst, arith}
+use Rattle.std.specs.List.{insert}
 use Rattle.std.proofs.ByRecursion.{All-weaker}
-use Rattle.std.proofs.lemmas.Bool.{cond-true, cond-false}
 use Rattle.indexes.specs.Laws.{Away, Apart}
 use Rattle.indexes.specs.declared.entry.Entry.{Entry}
-use Rattle.indexes.proofs.Apart.{away_inserted, apart_inserted}
+use Rattle.indexes.proofs.Apart.{apart_inserted}
 use Rattle.avl_tree.specs.declared.node.Node.{Node}
-use Rattle.avl_tree.specs.Nodes.{Held, Sides, Kept, Makes, Ready, Sprout, Puts}
-use Rattle.avl_tree.specs.Tree.{Tree, leaf, node, numbers, size}
-use Rattle.avl_tree.specs.Turns.{balanced, put}
-use Rattle.avl_tree.proofs.Lists.{Disjoint, Parts, parts, away_parts, disjoint_sym, all_both}
-use Rattle.avl_tree.proofs.Puts.{Inserts, inserts, insert_left, insert_right}
+use Rattle.avl_tree.specs.Nodes.{Sides, Sprout, Puts}
+use Rattle.avl_tree.specs.Tree.{Tree, node, numbers, size}
+use Rattle.avl_tree.specs.Turns.{put}
+use Rattle.avl_tree.proofs.Lists.{Disjoint, parts, away_parts, disjoint_sym, all_both}
+use Rattle.avl_tree.proofs.Puts.{inserts, insert_left, insert_right}
 use Rattle.avl_tree.proofs.Sizes.{size_numbers}
 use Rattle.avl_tree.proofs.Turns.{swap_left, swap_right}
 use Rattle.avl_tree.proofs.Weighs.{Rooted, rooted, lefts, rights, sides_of}

@@ -1,11 +1,11 @@
 -- In-order lists around a root: what stands where, counts, places and one change.
-use Rattle.std.proofs.Common.{◌≡◌, ℕ, zero, suc, ◌+◌, ◌-◌, ◌<◌, ◌≤◌, Bool, true, false, cond, List, [], ◌∷◌, ◌++◌, length, take, Some, None, Option, sym, refl, ap, ◌∙◌, subst, add-zero, arith}
+use Rattle.std.proofs.Common.{◌≡◌, ℕ, zero, suc, ◌+◌, ◌-◌, ◌<◌, ◌≤◌, Bool, true, false, cond, List, [], ◌∷◌, ◌++◌, length, take, Some, Option, sym, refl, ap, ◌∙◌, add-zero, arith}
 use Rattle.std.specs.List.{slice_get}
 use Rattle.indexes.specs.declared.entry.Entry.{Entry}
 use Rattle.indexes.specs.Changes.{at_place}
 use Rattle.indexes.specs.Questions.{bit, count, find, hit, shifted}
 use Rattle.indexes.proofs.Counts.{count_append}
-use Rattle.indexes.proofs.Finds.{find_left, find_right, shifted_shifted}
+use Rattle.indexes.proofs.Finds.{find_right, shifted_shifted}
 
 -- what stands at a place
 pub nth_left : {X : Type 0} (xs ys : List X) (i : ℕ) → i < length xs → slice_get (xs ++ ys) i ≡ slice_get xs i

@@ -1,14 +1,12 @@
 -- Joining two sides by rotations, step by step.
-use Rattle.std.proofs.Common.{◌≡◌, ℕ, ◌+◌, ◌<◌, List, [], ◌∷◌, ◌++◌, get_or, Some, None, Option, sym, refl, ap, ◌∙◌, subst, arith}
-use Rattle.std.specs.List.{slice_get, AllByRecursion as All}
-use Rattle.std.proofs.ByRecursion.{All-append, All-weaker}
+use Rattle.std.proofs.Common.{◌≡◌, ℕ, ◌+◌, ◌<◌, List, ◌∷◌, ◌++◌, get_or, Some, Option, sym, refl, ap, ◌∙◌, subst, arith}
 use Rattle.std.proofs.lemmas.List.{append_assoc}
 use Rattle.indexes.specs.Laws.{Away, Apart}
 use Rattle.indexes.specs.declared.entry.Entry.{Entry}
 use Rattle.avl_tree.specs.declared.node.Node.{Node}
 use Rattle.avl_tree.specs.Nodes.{cell, Holds, Held, Sides, Kept, Makes, Ready}
-use Rattle.avl_tree.specs.Tree.{Tree, leaf, node, numbers, size, top}
-use Rattle.avl_tree.proofs.Lists.{Disjoint, Parts, parts, apart_left, apart_right, apart_across, away_parts, all_left, all_right, disjoint_sym}
+use Rattle.avl_tree.specs.Tree.{Tree, node, numbers, size, top}
+use Rattle.avl_tree.proofs.Lists.{Disjoint, parts, away_parts, all_left, all_right, disjoint_sym}
 use Rattle.avl_tree.specs.Turns.{turn_right, turn_left}
 use Rattle.avl_tree.proofs.Cells.{held_kept}
 use Rattle.avl_tree.proofs.Weighs.{rooted}

@@ -1,5 +1,5 @@
 -- That the nodes are the cells of the tree is a proposition, so it can be taken out of its truncation.
-use Rattle.std.proofs.Common.{◌≡◌, ℕ, List, [], ◌∷◌, Some, None, Option, refl, arith}
+use Rattle.std.proofs.Common.{◌≡◌, ℕ, List, Some, None, Option, refl, arith}
 use mathlib.Core.Logic.{∥∥₁_elim}
 use base.Stored.{Coded, Coded-set, coded_list, coded_via}
 use Rattle.std.specs.Option.{option_to_list}

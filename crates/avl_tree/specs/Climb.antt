@@ -1,7 +1,7 @@
 -- Where a subtree stands in a tree.
 --   Found    a subtree, and how many entries come before it
 --   Climbs   what the climb from a node to the root asks
-use Rattle.std.specs.Prelude.{◌≡◌, ℕ, ◌+◌, ◌≤◌, ◌⊎◌, List, Some, None, Option}
+use Rattle.std.specs.Prelude.{◌≡◌, ℕ, ◌+◌, ◌≤◌, ◌⊎◌, List, Some, None}
 use Rattle.indexes.specs.Laws.{Apart}
 use Rattle.avl_tree.specs.declared.node.Node.{Node}
 use Rattle.avl_tree.specs.Nodes.{Holds}

@@ -4,13 +4,12 @@
 --   cells     the nodes of a tree in order
 --   Rooted, Stored, Covered   the nodes hold a tree of all of them
 --   Named     the directory leads from each character to its node
-use Rattle.std.specs.Prelude.{◌≡◌, ℕ, zero, suc, ◌+◌, ◌<◌, ◌≤◌, Bool, true, false, ◌&&◌, ◌||◌, List, [], ◌∷◌, ◌++◌, map, length, Some, None, Option, ◌==◌, nat_le}
+use Rattle.std.specs.Prelude.{◌≡◌, ℕ, zero, suc, ◌+◌, ◌<◌, Bool, true, false, ◌&&◌, ◌||◌, List, [], ◌∷◌, ◌++◌, map, length, Some, None, Option, ◌==◌, nat_le}
 use Rattle.std.specs.List.{slice_get}
-use Rattle.indexes.specs.Laws.{Distinct}
 use Rattle.indexes.specs.Questions.{characters}
 use Rattle.avl_tree.specs.declared.node.Node.{Node}
 use Rattle.avl_tree.specs.Nodes.{cell, held_entries}
-use Rattle.avl_tree.specs.Tree.{Tree, leaf, node, numbers, size, height, top}
+use Rattle.avl_tree.specs.Tree.{Tree, leaf, node, numbers, height, top}
 
 unfoldable pub grown : ℕ → List Node → Option ℕ → Tree
 grown zero ns link = leaf

@@ -4,7 +4,7 @@
 --   balanced                  a node over two sides whose heights differ by at most two
 --   put                       a new node at a place
 --   revised                   the entry at a place changed
-use Rattle.std.specs.Prelude.{ℕ, ◌+◌, ◌-◌, Bool, cond, ◌==◌, nat_le, nat_lt}
+use Rattle.std.specs.Prelude.{ℕ, ◌+◌, ◌-◌, cond, ◌==◌, nat_le, nat_lt}
 use Rattle.indexes.specs.declared.entry.Entry.{Entry}
 use Rattle.avl_tree.specs.Tree.{Tree, leaf, node, height, size}
 

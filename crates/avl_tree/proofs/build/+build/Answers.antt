@@ -1,5 +1,4 @@
-use Rattle.std.proofs.Common.{◌≡◌, ◌+◌, ◌-◌, ◌/◌, ◌<◌, ◌≤◌, length, vec_items, vec_len, sym, refl, ap, ◌∙◌, subst, arith}
-use lib.ListN.{length-map}
+use Rattle.std.proofs.Common.{◌-◌, ◌/◌, vec_items, ◌∙◌, arith}
 use Rattle.avl_tree.proofs.Builds.{ready_build, built, same_length}
 use Rattle.avl_tree.proofs.build.+build.Goals as goal
 

@@ -1,11 +1,10 @@
-use Rattle.std.proofs.Common.{◌≡◌, ◌+◌, ◌-◌, ◌<◌, ◌≤◌, length, set, vec_items, sym, refl, ap, ◌∙◌, subst, arith}
+use Rattle.std.proofs.Common.{◌≡◌, ◌-◌, ◌<◌, length, set, vec_items, sym, refl, ap, ◌∙◌, subst, arith}
 use Rattle.indexes.specs.declared.entry.Entry.{Entry}
 use Rattle.avl_tree.specs.Changes.{applied}
 use Rattle.avl_tree.specs.declared.change.Change.{Change}
 use Rattle.avl_tree.specs.declared.change.Change.TheVariants.{Prepared, Effect}
-use Rattle.avl_tree.specs.declared.node.Node.{Node}
 use Rattle.avl_tree.specs.declared.node.Weight.{Weight}
-use Rattle.avl_tree.specs.Nodes.{Held, Ready, Makes, altered}
+use Rattle.avl_tree.specs.Nodes.{Held, Ready, Makes}
 use Rattle.avl_tree.specs.Tree.{Tree, node, size}
 use Rattle.avl_tree.proofs.Cells.{set_altered}
 use Rattle.avl_tree.proofs.Revises.{root, retitled, stood_left, stood_right, ready_revised_left, ready_revised_right, ready_here, revised_left, revised_right, revised_here}

@@ -1,5 +1,5 @@
-use Rattle.std.proofs.Common.{◌≡◌, ◌+◌, ◌-◌, ◌<◌, ◌≤◌, length, Some, vec_items, sym, refl, ap, ◌∙◌, subst, arith}
-use Rattle.avl_tree.specs.Tree.{Tree, node, size}
+use Rattle.std.proofs.Common.{Some, vec_items, sym, refl, ap, arith}
+use Rattle.avl_tree.specs.Tree.{node}
 use Rattle.avl_tree.specs.declared.node.Weight.{Weight}
 use Rattle.avl_tree.proofs.Climbs.{climb_held, at_top, parent_of, left_held, climbs_on, from_right, from_left, larger, found_size}
 use Rattle.avl_tree.proofs.Ties.{link_within}

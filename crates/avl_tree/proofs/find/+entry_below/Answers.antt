@@ -1,16 +1,10 @@
-use Rattle.std.proofs.Common.{◌≡◌, ◌+◌, ◌-◌, ◌<◌, ◌≤◌, true, false, [], ◌∷◌, ◌++◌, length, take, Some, vec_items, vec_len, vec_capacity, sym, refl, ap, ◌∙◌, subst, arith, length-append}
+use Rattle.std.proofs.Common.{◌-◌, ◌<◌, ◌∷◌, length, Some, vec_items, sym, ap, ◌∙◌, arith}
 use Rattle.std.specs.List.{slice_get}
-use Rattle.std.proofs.lemmas.List.{append_assoc}
-use Rattle.indexes.specs.Entries.{is_prepared, is_present}
-use Rattle.indexes.specs.Questions.{bit, count, find, shifted}
-use Rattle.indexes.proofs.Counts.{bit_small, count_le_length, count_take_le}
-use Rattle.indexes.proofs.Finds.{find_left, shifted_shifted}
 use Rattle.avl_tree.specs.declared.node.Node.{Node}
 use Rattle.avl_tree.specs.declared.node.Weight.{Weight}
-use Rattle.avl_tree.specs.Nodes.{Held}
-use Rattle.avl_tree.specs.Tree.{Tree, entries, size}
-use Rattle.avl_tree.proofs.Sizes.{size_entries, prepared_entries, present_entries}
-use Rattle.avl_tree.proofs.Steps.{nth_left, nth_mid, nth_right, take_left, count_right, find_behind, find_mid}
+use Rattle.avl_tree.specs.Tree.{entries}
+use Rattle.avl_tree.proofs.Sizes.{size_entries}
+use Rattle.avl_tree.proofs.Steps.{nth_left, nth_mid, nth_right}
 use Rattle.avl_tree.proofs.Ties.{link_within}
 use Rattle.avl_tree.proofs.Weighs.{rooted, lefts, rights, falls_left, falls_right}
 use Rattle.avl_tree.proofs.find.+entry_below.Goals as goal

@@ -1,16 +1,12 @@
-use Rattle.std.proofs.Common.{◌≡◌, ℕ, ◌+◌, ◌-◌, ◌<◌, ◌≤◌, true, false, [], ◌∷◌, ◌++◌, length, take, Some, None, vec_items, vec_len, vec_capacity, sym, refl, ap, ◌∙◌, subst, arith, length-append}
-use Rattle.std.specs.List.{slice_get}
-use Rattle.std.proofs.lemmas.List.{append_assoc}
-use Rattle.indexes.specs.Entries.{is_prepared, is_present}
-use Rattle.indexes.specs.Questions.{bit, count, find, shifted}
+use Rattle.std.proofs.Common.{◌≡◌, ℕ, ◌-◌, ◌<◌, ◌∷◌, length, take, None, vec_items, sym, ap, ◌∙◌, arith}
+use Rattle.indexes.specs.Entries.{is_present}
+use Rattle.indexes.specs.Questions.{bit, count}
 use Rattle.indexes.proofs.Counts.{bit_small, count_le_length, count_take_le}
-use Rattle.indexes.proofs.Finds.{find_left, shifted_shifted}
 use Rattle.avl_tree.specs.declared.node.Node.{Node}
 use Rattle.avl_tree.specs.declared.node.Weight.{Weight}
-use Rattle.avl_tree.specs.Nodes.{Held}
 use Rattle.avl_tree.specs.Tree.{Tree, leaf, node, top, entries, size}
-use Rattle.avl_tree.proofs.Sizes.{size_entries, prepared_entries, present_entries}
-use Rattle.avl_tree.proofs.Steps.{nth_left, nth_mid, nth_right, take_left, count_right, count_take_none}
+use Rattle.avl_tree.proofs.Sizes.{size_entries, present_entries}
+use Rattle.avl_tree.proofs.Steps.{take_left, count_right, count_take_none}
 use Rattle.avl_tree.proofs.Ties.{link_within}
 use Rattle.avl_tree.proofs.Weighs.{rooted, lefts, rights, falls_left, falls_right}
 use Rattle.avl_tree.proofs.find.+present_below.Goals as goal

@@ -1,4 +1,4 @@
-use Rattle.std.proofs.Common.{◌≡◌, ◌+◌, ◌-◌, ◌<◌, ◌≤◌, vec_items, sym, refl, ap, ◌∙◌, subst, arith}
+use Rattle.std.proofs.Common.{◌≡◌, ◌-◌, ◌<◌, ◌≤◌, vec_items, sym, ap, ◌∙◌, subst, arith}
 use Rattle.avl_tree.specs.Nodes.{Held, Sprout}
 use Rattle.avl_tree.specs.Tree.{Tree, size}
 use Rattle.avl_tree.specs.declared.node.Weight.{Weight}

@@ -1,10 +1,10 @@
-use Rattle.std.proofs.Common.{◌≡◌, ℕ, ◌+◌, ◌<◌, List, ◌∷◌, ◌++◌, length, Some, vec_items, sym, refl, ap, ◌∙◌, subst, arith, length-set}
+use Rattle.std.proofs.Common.{◌≡◌, ◌<◌, ◌∷◌, ◌++◌, length, Some, vec_items, sym, ap, ◌∙◌, subst, arith, length-set}
 use Rattle.indexes.specs.declared.entry.Entry.{Entry}
 use Rattle.avl_tree.specs.declared.node.Node.{Node}
 use Rattle.avl_tree.specs.declared.node.Weight.{Weight}
-use Rattle.avl_tree.specs.Nodes.{held_entries, Sides, Held, Kept, Sane, altered, over, tied, adopted}
-use Rattle.avl_tree.specs.Tree.{Tree, node, numbers, weight, joined, size}
-use Rattle.avl_tree.proofs.Cells.{nth_within, read_is, set_altered, length_altered}
+use Rattle.avl_tree.specs.Nodes.{held_entries, Sides, Held, Kept, Sane, over, tied, adopted}
+use Rattle.avl_tree.specs.Tree.{Tree, node, numbers, weight, joined}
+use Rattle.avl_tree.proofs.Cells.{nth_within, read_is, set_altered}
 use Rattle.avl_tree.proofs.Sizes.{sane}
 use Rattle.avl_tree.proofs.Ties.{link_within, length_adopted, entries_tied, tied_held, tied_kept}
 use Rattle.avl_tree.proofs.tie.tie.Goals as goal

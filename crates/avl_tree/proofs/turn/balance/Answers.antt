@@ -1,8 +1,6 @@
-use Rattle.std.proofs.Common.{◌≡◌, ◌+◌, ◌<◌, ◌≤◌, true, false, cond, ltb, vec_items, sym, ap, ◌∙◌, arith, le-ltb, lt-ltb}
+use Rattle.std.proofs.Common.{◌+◌, ltb, vec_items, sym, ap, ◌∙◌, arith, le-ltb, lt-ltb}
 use Rattle.std.proofs.lemmas.Bool.{cond-true, cond-false}
-use Rattle.indexes.specs.declared.entry.Entry.{Entry}
-use Rattle.avl_tree.specs.Nodes.{Sides, Held}
-use Rattle.avl_tree.specs.Tree.{Tree, node, height}
+use Rattle.avl_tree.specs.Tree.{node, height}
 use Rattle.avl_tree.specs.Turns.{raise_left, raise_right, balanced}
 use Rattle.avl_tree.specs.declared.node.Weight.{Weight}
 use Rattle.avl_tree.proofs.Sizes.{sane}

@@ -1,5 +1,4 @@
-use Rattle.std.proofs.Common.{◌≡◌, ◌<◌, length, vec_items, sym, ap, ◌∙◌, arith}
-use Rattle.avl_tree.specs.declared.node.Node.{Node}
+use Rattle.std.proofs.Common.{vec_items, arith}
 use Rattle.avl_tree.proofs.Ties.{link_within}
 use Rattle.avl_tree.proofs.Weighs.{weight_read}
 use Rattle.avl_tree.proofs.weigh.weight_of.Goals as goal

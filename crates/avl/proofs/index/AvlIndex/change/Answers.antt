@@ -46,7 +46,21 @@ invariant_of-self c =
     let g = facts ks s.root (vec_items s.directory) (revised f t c.args.place) w named in
     let meaning = g.meaning ∙ (revising f t c.args.place).written in
     let size_is = ap length meaning ∙ length_at_place f (avl_entries s) c.args.place in
-    (g.rooted, (g.stored, (g.apart, (g.covered, (g.sized, (g.balanced, (named, (g.distinct, (s.wide, (omega (arith, size_is, s.within), (omega (arith, c.adopt.ensures.kept, c.revise_below.ensures.kept, s.reserved), (s.spared, (s.small, tt)))))))))))))
+    record {
+      rooted = g.rooted;
+      stored = g.stored;
+      apart = g.apart;
+      covered = g.covered;
+      sized = g.sized;
+      balanced = g.balanced;
+      named = named;
+      distinct = g.distinct;
+      wide = s.wide;
+      within = omega (arith, size_is, s.within);
+      reserved = omega (arith, c.adopt.ensures.kept, c.revise_below.ensures.kept, s.reserved);
+      spared = s.spared;
+      small = s.small;
+    }
 
 pub returns : goal.returns
 returns c =

@@ -65,7 +65,21 @@ invariant_of-self c =
     let f = facts ks (Some r) (set (vec_items s.directory) x.character c.len-new.result) (put t c.args.place (length ns) x) whole named in
     let meaning = f.meaning ∙ (inserts t c.args.place (length ns) x within).written in
     let long = ap length meaning ∙ length-insert (avl_entries s) c.args.place x c.requires.within in
-    (f.rooted, (f.stored, (f.apart, (f.covered, (f.sized, (f.balanced, (named, (f.distinct, (s.wide, (omega (arith, long, c.requires.room), (omega (arith, c.adopt.ensures.kept, c.put_below-root.ensures.kept, c.push_reserved.ensures.capacity, s.reserved), (s.spared, (s.small, tt)))))))))))))
+    record {
+      rooted = f.rooted;
+      stored = f.stored;
+      apart = f.apart;
+      covered = f.covered;
+      sized = f.sized;
+      balanced = f.balanced;
+      named = named;
+      distinct = f.distinct;
+      wide = s.wide;
+      within = omega (arith, long, c.requires.room);
+      reserved = omega (arith, c.adopt.ensures.kept, c.put_below-root.ensures.kept, c.push_reserved.ensures.capacity, s.reserved);
+      spared = s.spared;
+      small = s.small;
+    }
 
 pub returns : goal.returns
 returns c =

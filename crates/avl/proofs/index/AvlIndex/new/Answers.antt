@@ -14,4 +14,18 @@ invariant_of-result c =
     let named = subst (λ (ns : List Node). Named ns dir) (sym e) (named_none dir) in
     let f = facts (vec_items v) None dir leaf (subst (λ (ns : List Node). Whole ns None leaf) (sym e) whole_none) named in
     let none = ap length f.meaning in
-    (f.rooted, (f.stored, (f.apart, (f.covered, (f.sized, (f.balanced, (named, (f.distinct, (omega arith, (omega (arith, none), (omega (arith, c.clear.ensures.capacity), (omega arith, (omega arith, tt)))))))))))))
+    record {
+      rooted = f.rooted;
+      stored = f.stored;
+      apart = f.apart;
+      covered = f.covered;
+      sized = f.sized;
+      balanced = f.balanced;
+      named = named;
+      distinct = f.distinct;
+      wide = omega arith;
+      within = omega (arith, none);
+      reserved = omega (arith, c.clear.ensures.capacity);
+      spared = omega arith;
+      small = omega arith;
+    }

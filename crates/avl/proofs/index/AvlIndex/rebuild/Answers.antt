@@ -79,7 +79,21 @@ invariant_of-self c =
     let f = facts ks link dir b.tree w named in
     let meaning = f.meaning ∙ built_entries ns ms link n long b ∙ c.lay_out.ensures.after ∙ spare-is in
     let fewer = ap length meaning in
-    (f.rooted, (f.stored, (f.apart, (f.covered, (f.sized, (f.balanced, (named, (f.distinct, (c.lay_out.ensures.wide, (omega (arith, fewer, length_trimmed es, s.within), (omega (arith, c.adopt.ensures.kept, c.build-self.ensures.kept, c.lay_out.ensures.kept, s.reserved), (omega (arith, c.trim_cells.ensures.kept, c.collect_below.ensures.kept, c.clear.ensures.capacity, s.spared), (s.small, tt)))))))))))))
+    record {
+      rooted = f.rooted;
+      stored = f.stored;
+      apart = f.apart;
+      covered = f.covered;
+      sized = f.sized;
+      balanced = f.balanced;
+      named = named;
+      distinct = f.distinct;
+      wide = c.lay_out.ensures.wide;
+      within = omega (arith, fewer, length_trimmed es, s.within);
+      reserved = omega (arith, c.adopt.ensures.kept, c.build-self.ensures.kept, c.lay_out.ensures.kept, s.reserved);
+      spared = omega (arith, c.trim_cells.ensures.kept, c.collect_below.ensures.kept, c.clear.ensures.capacity, s.spared);
+      small = s.small;
+    }
 
 pub returns : goal.returns
 returns c =

@@ -15,7 +15,21 @@ invariant_of-self c =
     let named = subst (λ (ns : List Node). Named ns dir) (sym e) (named_none dir) in
     let f = facts (vec_items v) None dir leaf (subst (λ (ns : List Node). Whole ns None leaf) (sym e) whole_none) named in
     let none = ap length f.meaning in
-    (f.rooted, (f.stored, (f.apart, (f.covered, (f.sized, (f.balanced, (named, (f.distinct, (s.wide, (omega (arith, none), (omega (arith, c.clear.ensures.capacity, s.reserved), (s.spared, (s.small, tt)))))))))))))
+    record {
+      rooted = f.rooted;
+      stored = f.stored;
+      apart = f.apart;
+      covered = f.covered;
+      sized = f.sized;
+      balanced = f.balanced;
+      named = named;
+      distinct = f.distinct;
+      wide = s.wide;
+      within = omega (arith, none);
+      reserved = omega (arith, c.clear.ensures.capacity, s.reserved);
+      spared = s.spared;
+      small = s.small;
+    }
 
 pub returns : goal.returns
 returns c =

@@ -44,14 +44,14 @@ weight_of-before-requires c =
     let s = c.args.self.now in
     let ns = vec_items s.nodes in
     let l = located ns s.root (avl_tree_of s) c.index-i.result.now c.index-node.result.now (whole_of s) (small_of s) (omega (arith, s.nodes.ok.0, c.len.ensures, c.if-i-len.false)) c.index-node.ensures in
-    (l.lower, l.left-held)
+    (l.lower, l.left_held)
 
 pub place_above-requires : goal.place_above-requires
 place_above-requires c =
     let s = c.args.self.now in
     let ns = vec_items s.nodes in
     let l = located ns s.root (avl_tree_of s) c.index-i.result.now c.index-node.result.now (whole_of s) (small_of s) (omega (arith, s.nodes.ok.0, c.len.ensures, c.if-i-len.false)) c.index-node.ensures in
-    let n = ap (λ (w : Weight). w.size) (c.weight_of-before.ensures l.lower l.left-held) in
+    let n = ap (λ (w : Weight). w.size) (c.weight_of-before.ensures l.lower l.left_held) in
     let within = nth_within (avl_entries s) (l.offset + size l.lower) l.entry l.stands in
     (avl_tree_of s, node l.lower c.index-i.result.now l.entry l.upper, l.offset, l.climbs, omega (arith, n, within, s.within, s.small))
 
@@ -60,6 +60,6 @@ returns c =
     let s = c.args.self.now in
     let ns = vec_items s.nodes in
     let l = located ns s.root (avl_tree_of s) c.index-i.result.now c.index-node.result.now (whole_of s) (small_of s) (omega (arith, s.nodes.ok.0, c.len.ensures, c.if-i-len.false)) c.index-node.ensures in
-    let n = ap (λ (w : Weight). w.size) (c.weight_of-before.ensures l.lower l.left-held) in
+    let n = ap (λ (w : Weight). w.size) (c.weight_of-before.ensures l.lower l.left_held) in
     let at = c.place_above.ensures (avl_tree_of s) (node l.lower c.index-i.result.now l.entry l.upper) l.offset l.climbs ∙ ap (λ k. l.offset + k) n in
-    record { answer = ap Some at ∙ sym (place_seen (avl_entries s) (l.offset + size l.lower) c.args.character l.entry s.distinct l.stands (ap (λ (e : Entry). e.character) (sym l.entry-is) ∙ c.if-node-character.false)) }
+    record { answer = ap Some at ∙ sym (place_seen (avl_entries s) (l.offset + size l.lower) c.args.character l.entry s.distinct l.stands (ap (λ (e : Entry). e.character) (sym l.entry_is) ∙ c.if-node-character.false)) }
