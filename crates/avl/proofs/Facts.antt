@@ -1,15 +1,14 @@
 -- What the ghost fields of an AVL index say, as facts about its tree.
-use Rattle.std.proofs.Common.{◌≡◌, ℕ, ◌+◌, ◌<◌, ◌≤◌, Bool, true, false, List, [], ◌∷◌, ◌++◌, map, length, Some, None, vec_items, vec_len, Option, sym, refl, ap, ◌∙◌, subst, arith}
+use Rattle.std.proofs.Common.{◌≡◌, ℕ, ◌≤◌, true, List, [], length, None, vec_items, vec_len, Option, sym, refl, ap, ◌∙◌, subst, arith}
 use Rattle.indexes.specs.Laws.{Distinct}
 use Rattle.indexes.specs.Questions.{characters}
-use Rattle.indexes.specs.declared.entry.Entry.{Entry}
 use Rattle.avl.specs.Avl.{avl_tree_of, avl_entries}
 use Rattle.avl.specs.declared.index.AvlIndex.{AvlIndex}
 use Rattle.avl_tree.specs.declared.node.Node.{Node}
 use Rattle.avl_tree.specs.Nodes.{Held, Stood}
 use Rattle.avl_tree.specs.Shape.{tree_of, even, Rooted, Stored, Covered, Named}
 use Rattle.avl_tree.specs.Tree.{Tree, leaf, entries, numbers, size}
-use Rattle.avl_tree.proofs.Grown.{Whole, whole, Shaped, shaped, held_whole, tree_is}
+use Rattle.avl_tree.proofs.Grown.{Whole, whole, shaped, held_whole, tree_is}
 use Rattle.avl_tree.proofs.Names.{names_distinct}
 use Rattle.avl_tree.proofs.Sizes.{size_entries}
 use Rattle.avl_tree.proofs.Untold.{untold}

@@ -41,8 +41,7 @@ pub adopt-requires-2 : goal.adopt-requires-2
 adopt-requires-2 c i is =
     let v = c.args.nodes.now in
     let longer = ap length c.adopt.ensures.after in
-    let set_long = length_adopted _ c.args.left (Some c.args.j) in
-    omega (arith, link_within (vec_items v) c.args.right c.requires.2 c.requires.3.upper i is, v.ok.0, c.adopt.new.nodes.ok.0, longer ∙ set_long ∙ length-set (vec_items v) c.args.j _)
+    omega (arith, link_within (vec_items v) c.args.right c.requires.2 c.requires.3.upper i is, v.ok.0, c.adopt.new.nodes.ok.0, longer ∙ length_adopted _ c.args.left (Some c.args.j) ∙ length-set (vec_items v) c.args.j _)
 
 pub returns : goal.returns
 returns c =

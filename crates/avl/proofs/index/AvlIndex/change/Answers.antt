@@ -1,4 +1,4 @@
-use Rattle.std.proofs.Common.{◌≡◌, ◌+◌, ◌<◌, ◌≤◌, ltb, List, [], ◌∷◌, ◌++◌, length, Some, None, vec_items, vec_len, sym, refl, ap, ◌∙◌, subst, arith}
+use Rattle.std.proofs.Common.{◌≡◌, ltb, List, length, None, vec_items, sym, refl, ap, ◌∙◌, subst, arith}
 use lib.ListN.{length-map}
 use Rattle.std.specs.List.{slice_get}
 use Rattle.indexes.specs.Questions.{characters}
@@ -9,13 +9,11 @@ use Rattle.avl_tree.specs.Changes.{applied}
 use Rattle.avl_tree.specs.declared.node.Node.{Node}
 use Rattle.avl_tree.specs.Nodes.{held_entries}
 use Rattle.avl_tree.specs.Shape.{Named}
-use Rattle.avl_tree.specs.Tree.{Tree, size}
 use Rattle.avl_tree.specs.Turns.{revised}
 use Rattle.avl.proofs.Facts.{whole_of, stood_of, count_of, facts}
 use Rattle.avl_tree.proofs.Grown.{Whole}
 use Rattle.avl_tree.proofs.Inserted.{whole_revised}
 use Rattle.avl_tree.proofs.Revises.{revising}
-use Rattle.avl_tree.proofs.Sizes.{size_entries}
 use Rattle.avl_tree.proofs.Ties.{link_within, entries_adopted, length_adopted}
 use Rattle.avl.proofs.index.AvlIndex.change.Goals as goal
 

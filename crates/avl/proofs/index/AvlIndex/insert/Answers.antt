@@ -1,10 +1,10 @@
-use Rattle.std.proofs.Common.{◌≡◌, ◌+◌, ◌<◌, ◌≤◌, List, [], ◌∷◌, ◌++◌, length, set, Some, None, vec_items, vec_len, sym, refl, ap, ◌∙◌, subst, arith}
+use Rattle.std.proofs.Common.{◌≡◌, ◌≤◌, List, [], ◌∷◌, ◌++◌, length, set, Some, None, vec_items, sym, refl, ap, ◌∙◌, subst, arith}
 use Rattle.std.proofs.lemmas.List.Edits.{length-insert}
 use Rattle.indexes.proofs.Apart.{away_unfound}
 use Rattle.avl.specs.Avl.{avl_tree_of, avl_entries}
 use Rattle.avl_tree.specs.declared.node.Node.{Node}
 use Rattle.avl_tree.specs.Nodes.{cell, Sprout}
-use Rattle.avl_tree.specs.Tree.{Tree, leaf, size}
+use Rattle.avl_tree.specs.Tree.{leaf, size}
 use Rattle.avl_tree.specs.Turns.{put}
 use Rattle.avl.proofs.Facts.{whole_of, count_of, small_of, facts}
 use Rattle.avl_tree.proofs.Inserted.{sprout_new, whole_insert, named_insert}

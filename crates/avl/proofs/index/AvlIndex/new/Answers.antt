@@ -1,9 +1,9 @@
-use Rattle.std.proofs.Common.{◌≡◌, List, [], length, None, vec_items, sym, refl, ap, ◌∙◌, subst, arith}
+use Rattle.std.proofs.Common.{List, length, None, vec_items, sym, ap, subst, arith}
 use Rattle.avl_tree.specs.declared.node.Node.{Node}
 use Rattle.avl_tree.specs.Shape.{Named}
 use Rattle.avl_tree.specs.Tree.{leaf}
 use Rattle.avl_tree.proofs.Grown.{Whole}
-use Rattle.avl.proofs.Facts.{Facts, facts, whole_none, named_none}
+use Rattle.avl.proofs.Facts.{facts, whole_none, named_none}
 use Rattle.avl.proofs.index.AvlIndex.new.Goals as goal
 
 pub invariant_of-result : goal.invariant_of-result

@@ -1,4 +1,4 @@
-use Rattle.std.proofs.Common.{◌≡◌, ◌+◌, ◌<◌, ◌≤◌, List, [], ◌∷◌, ◌++◌, length, Some, None, vec_items, vec_len, sym, refl, ap, ◌∙◌, subst, arith}
+use Rattle.std.proofs.Common.{◌≡◌, List, ◌++◌, length, None, vec_items, vec_len, sym, refl, ap, ◌∙◌, subst, arith}
 use lib.ListN.{length-map}
 use Rattle.std.specs.List.{slice_get}
 use Rattle.indexes.specs.Changes.{trimmed}
@@ -9,7 +9,6 @@ use Rattle.avl.specs.Avl.{avl_tree_of, avl_entries}
 use Rattle.avl_tree.specs.declared.node.Node.{Node}
 use Rattle.avl_tree.specs.Nodes.{held_entries}
 use Rattle.avl_tree.specs.Shape.{Named}
-use Rattle.avl_tree.specs.Tree.{Tree}
 use Rattle.avl.proofs.Facts.{held_of, facts}
 use Rattle.avl_tree.proofs.Grown.{Whole}
 use Rattle.avl_tree.proofs.Rebuilt.{whole_built, built_entries}

@@ -1,14 +1,8 @@
-use Rattle.std.proofs.Common.{◌≡◌, ◌+◌, ◌-◌, ◌<◌, ◌≤◌, true, false, leb, length, take, Some, None, vec_items, vec_len, sym, refl, ap, ◌∙◌, subst, arith, le-leb}
-use borrow.Author.Tests.{lt-leb}
-use Rattle.std.proofs.lemmas.Bool.{cond-true, cond-false}
-use Rattle.indexes.specs.Entries.{is_prepared, is_present}
-use Rattle.indexes.specs.Questions.{count, find, shifted}
-use Rattle.indexes.proofs.Finds.{shifted_zero}
-use Rattle.avl.specs.Avl.{avl_tree_of, avl_entries}
-use Rattle.avl_tree.specs.Tree.{Tree, entries, size}
+use Rattle.std.proofs.Common.{ap, ◌∙◌}
+use Rattle.avl.specs.Avl.{avl_tree_of}
 use Rattle.avl_tree.specs.declared.node.Weight.{Weight}
-use Rattle.avl.proofs.Facts.{held_of, count_of, small_of}
-use Rattle.avl_tree.proofs.Sizes.{size_entries, prepared_entries, present_entries}
+use Rattle.avl.proofs.Facts.{held_of}
+use Rattle.avl_tree.proofs.Sizes.{present_entries}
 use Rattle.avl.proofs.index.position.AvlIndexPositionIndex.present_count.Goals as goal
 
 pub weight_of-requires : goal.weight_of-requires

@@ -1,5 +1,4 @@
-use Rattle.std.proofs.Common.{◌≡◌, true, false, is_some, sym, refl, ap, ◌∙◌, subst, arith}
-use Rattle.indexes.specs.Questions.{place_of}
+use Rattle.std.proofs.Common.{is_some, sym, refl, ap, ◌∙◌, arith}
 use Rattle.indexes.proofs.Places.{put_past, put_full, put_listed, put_made}
 use Rattle.avl.specs.Avl.{avl_entries}
 use Rattle.avl.proofs.Facts.{count_of}
