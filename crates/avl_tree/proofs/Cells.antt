@@ -1,6 +1,6 @@
 -- Nodes by number: what a write changes, and that a tree is held as long as its own nodes stay.
 use Rattle.std.proofs.Common.{◌≡◌, ℕ, zero, suc, ◌<◌, List, [], ◌∷◌, length, get_or, set, Some, Option, refl, ap, ◌∙◌, arith}
-use Rattle.std.specs.List.{AllByRecursion as All, slice_get}
+use Rattle.std.specs.List.{AllByRecursion, slice_get}
 use Rattle.std.proofs.ByRecursion.{All-weaker}
 use Rattle.indexes.specs.Laws.{Away}
 use Rattle.avl_tree.specs.declared.node.Node.{Node}
@@ -47,7 +47,7 @@ entries_altered f keeps [] i = refl
 entries_altered f keeps (n ∷ ns) zero = ap (λ e. e ∷ held_entries ns) (keeps n)
 entries_altered f keeps (n ∷ ns) (suc i) = ap (λ es. n.entry ∷ es) (entries_altered f keeps ns i)
 
-pub holds_same : (ns ms : List Node) (p : Option ℕ) (t : Tree) → All (λ k. slice_get ms k ≡ slice_get ns k) (numbers t) → Holds ns p t → Holds ms p t
+pub holds_same : (ns ms : List Node) (p : Option ℕ) (t : Tree) → AllByRecursion (λ k. slice_get ms k ≡ slice_get ns k) (numbers t) → Holds ns p t → Holds ms p t
 holds_same ns ms p leaf same h = tt
 holds_same ns ms p (node l i e r) same h =
     let P : ℕ → Type 0 = λ k. slice_get ms k ≡ slice_get ns k in

@@ -1,7 +1,7 @@
 -- The directory: each entry's character leads to its node, so no character stands twice, and a
 -- character whose directory entry is not its node is not listed.
 use Rattle.std.proofs.Common.{◌≡◌, ℕ, zero, suc, ◌+◌, true, eqb, ◌⊎◌, List, [], ◌∷◌, ◌++◌, map, Some, Option, sym, refl, ap, ◌∙◌, subst, inl, inr, arith, eqb-true}
-use Rattle.std.specs.List.{AllByRecursion as All, slice_get}
+use Rattle.std.specs.List.{AllByRecursion, slice_get}
 use Rattle.std.proofs.ByRecursion.{All-append}
 use Rattle.std.proofs.lemmas.List.{map-append}
 use Rattle.std.proofs.lemmas.Bool.{or_cases, or_left, or_right}
@@ -53,10 +53,10 @@ names_distinct ns dir p t h named a =
     distinct (characters (entries t)) (apart_by (slice_get dir) (characters (entries t)) (numbers t) (entry_names ns dir p t h named) a)
 
 -- what holds of the entry of every node holds of every entry
-all_entries : (ns : List Node) (p : Option ℕ) (t : Tree) (P : ℕ → Type 0) → Holds ns p t → ((i : ℕ) (n : Node) → slice_get ns i ≡ Some n → P n.entry.character) → All P (characters (entries t))
+all_entries : (ns : List Node) (p : Option ℕ) (t : Tree) (P : ℕ → Type 0) → Holds ns p t → ((i : ℕ) (n : Node) → slice_get ns i ≡ Some n → P n.entry.character) → AllByRecursion P (characters (entries t))
 all_entries ns p leaf P h each = tt
 all_entries ns p (node l i e r) P h each =
-    subst (All P) (sym (map-append (λ (x : Entry). x.character) (entries l) (e ∷ entries r)))
+    subst (AllByRecursion P) (sym (map-append (λ (x : Entry). x.character) (entries l) (e ∷ entries r)))
     (All-append P (characters (entries l)) (e.character ∷ characters (entries r)) (all_entries ns (Some i) l P h.1 each) (each i (cell p l e r) h.0, all_entries ns (Some i) r P h.2 each))
 
 -- a character that the directory leads elsewhere

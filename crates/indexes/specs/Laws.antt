@@ -1,6 +1,6 @@
 -- What holds of every position index.
 use Rattle.std.specs.Prelude.{ℕ, ◌<◌, ◌≤◌, List, [], ◌∷◌, length, ◌≢◌, slice_index}
-use Rattle.std.specs.List.{AllByRecursion as All}
+use Rattle.std.specs.List.{AllByRecursion}
 use Rattle.indexes.specs.declared.entry.Entry.{Entry}
 use Rattle.indexes.specs.Questions.{characters}
 
@@ -10,7 +10,7 @@ Distinct cs = (i j : ℕ) → i < j → j < length cs → slice_index cs i ≢ s
 
 -- c is not in the list
 abbrev pub Away : ℕ → List ℕ → Type 0
-Away c cs = All (λ d. d ≢ c) cs
+Away c cs = AllByRecursion (λ d. d ≢ c) cs
 
 -- the same as Distinct, number by number: none is among those after it
 abbrev pub Apart : List ℕ → Type 0
