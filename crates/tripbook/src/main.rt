@@ -4,6 +4,7 @@
 mod checks;
 mod days;
 
+use anyhow::anyhow;
 use checks::check_file;
 use days::refile_day;
 use std::env;
@@ -19,7 +20,7 @@ fn check(rt: &HostRuntime, words: &[String]) -> anyhow::Result<()> {
             file.as_str(),
             Some(order.as_str()),
         ),
-        _ => Err(USAGE.into()),
+        _ => Err(anyhow!(USAGE)),
     }
 }
 
@@ -33,7 +34,7 @@ fn run(rt: &HostRuntime) -> anyhow::Result<()> {
             to.as_str(),
         ),
         [_, command, rest @ ..] if command.as_str() == "check" => check(rt, rest),
-        _ => Err(USAGE.into()),
+        _ => Err(anyhow!(USAGE)),
     }
 }
 
