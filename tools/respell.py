@@ -16,10 +16,10 @@ import sys
 TOKEN = re.compile(r"[^\s(){}.;,@\"«»`]+")
 QUIET = re.compile(r'"(?:[^"\\\n]|\\.)*"|(?<!\S)--[^\n]*|\{-.*?-\}', re.S)
 QUIET_RT = re.compile(r'"(?:[^"\\\n]|\\.)*"|//[^\n]*|b?\'(?:[^\'\\\n]|\\[^\n])\'', re.S)
-DECLARED = re.compile(r"(?m)^ *(?:(?:abbrev|pub|private|opaque|inline) +)*([^\s(){}.;,@\"«»:]+)(?: \{[^{}\n]*\})* :(?= )(?! goal\.)")
+DECLARED = re.compile(r"(?m)^ *(?:(?:abbrev|pub|private|opaque|inline|unfoldable) +)*([^\s(){}.;,@\"«»:]+)(?: \{[^{}\n]*\})* :(?= )(?! goal\.)")
 TYPE = re.compile(r"(?m)^ *(?:(?:pub|abbrev) +)*(?:data|record) +([^\s(){}.;,@\"]+)")
 IMPORT = re.compile(r"use Rattle\.(std|core)\.[\w.']+\.\{([^}]*)\}")
-# Names that would fall together with another one.
+# Names that would fall together with another one, and names that no line of their own declares.
 OTHER = {
     "all-has": "all_has_lem",
     "attached-by": "attached_by_lem",
@@ -35,7 +35,10 @@ OTHER = {
     "parents-below": "parents_below_lem",
     "parents-in": "parents_in_lem",
     "rightEnd": "right_end_of",
+    "rightOf": "right_of",
     "same-part": "same_part_lem",
+    "seenTree": "seen_tree",
+    "valueOr": "value_or",
     "with-new": "with_new_lem",
 }
 MADE = ("Answers.antt", "Invariants.antt", "Proof.antt", "Choices.antt")
@@ -82,7 +85,7 @@ def table():
             declared |= set(DECLARED.findall(text)) | set(TYPE.findall(text))
     pairs = {}
     clash = []
-    for old in sorted(declared):
+    for old in sorted(declared | set(OTHER) & set().union(*tokens)):
         new = spelled(old)
         if new == old:
             continue
@@ -131,7 +134,7 @@ def main(argv):
         text = read(path)
         leave = set()
         for m in IMPORT.finditer(text):
-            leave |= {w.strip().split(" as ")[-1] for w in m.group(2).split(",")}
+            leave |= {w.strip() for w in m.group(2).split(",") if " as " not in w}
         quiet = QUIET if path.endswith(".antt") else QUIET_RT
         new = turn(text, pairs, path.endswith(MADE), quiet, leave)
         if new != text:

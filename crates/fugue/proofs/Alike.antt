@@ -10,7 +10,7 @@ use Rattle.fugue.specs.declared.edit.Edit.TheVariants as edit
 use Rattle.fugue.specs.Names.{◌∈◌, Ordered}
 use Rattle.fugue.proofs.Lists.{Alike, in_joined, from_joined}
 use Rattle.fugue.specs.Tree.{Node, Tree, sequence, Grown}
-use Rattle.fugue.specs.Placements.{Placement, inserted, deleted, beyond, Placed, node_of, target_of, nodes, targets, struck, LeftOrigin, left_origin, right_end_of, following, attached_by, visible, attachmentAfter, placement, characters}
+use Rattle.fugue.specs.Placements.{Placement, inserted, deleted, beyond, Placed, node_of, target_of, nodes, targets, struck, LeftOrigin, left_origin, right_end_of, following, attached_by, visible, attachment_after, placement, characters}
 use Rattle.fugue.specs.Edits.{in_front_of, edit_of}
 use Rattle.fugue.proofs.Names.{has_alike}
 use Rattle.fugue.proofs.Placed.{deleted_at, inserted_at}
@@ -51,8 +51,8 @@ module _ (before : Name → Name → Bool) (o : Ordered before) (ps qs : List Pl
   unfolding characters
   characters_same = ap (map (λ n. n.character)) visible_same
 
-  attachment_same : (p : LeftOrigin) → attachmentAfter before (nodes ps) p ≡ attachmentAfter before (nodes qs) p
-  unfolding attachmentAfter
+  attachment_same : (p : LeftOrigin) → attachment_after before (nodes ps) p ≡ attachment_after before (nodes qs) p
+  unfolding attachment_after
   attachment_same p =
       ap₂ (λ l s. attached_by l (following p s) (right_end_of p)) (children_same before o (nodes ps) (nodes qs) nodes_alike g f (right_end_of p)) sequence_same
 

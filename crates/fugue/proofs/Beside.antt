@@ -5,8 +5,8 @@ use Rattle.std.proofs.lemmas.Bool.{both_ways, cases_Bool}
 use Rattle.events.specs.declared.name.Name.{Name}
 use Rattle.events.specs.declared.character.Character.{Character}
 use Rattle.fugue.specs.Names.{◌∈◌, same, Ordered}
-use Rattle.fugue.specs.Tree.{Attachment, root, left_of, rightOf, same_attachment, Node, Tree, children, sequence, AttachedTo, Grown, Children, InSequence, none, next, SequenceOf}
-use Rattle.fugue.specs.Placements.{LeftOrigin, start, node, right_end_of, after, following, attached_by, attachmentAfter}
+use Rattle.fugue.specs.Tree.{Attachment, root, left_of, right_of, same_attachment, Node, Tree, children, sequence, AttachedTo, Grown, Children, InSequence, none, next, SequenceOf}
+use Rattle.fugue.specs.Placements.{LeftOrigin, start, node, right_end_of, after, following, attached_by, attachment_after}
 use Rattle.fugue.specs.Edits.{in_front_of}
 use Rattle.fugue.proofs.Names.{same_name, same_own, same_not, attachment_is, attachment_refl}
 use Rattle.fugue.proofs.Lists.{all_member, in_right}
@@ -35,7 +35,7 @@ here e q = cond (same_attachment e.attachment q) (e ∷ []) []
 
 -- a node, with e on the side on which it is attached to it
 abbrev with_new : Node → Node → List Node
-with_new e n = here e (left_of n.name) ++ n ∷ here e (rightOf n.name)
+with_new e n = here e (left_of n.name) ++ n ∷ here e (right_of n.name)
 
 -- e is attached where nothing else is
 module _ (before : Name → Name → Bool) (o : Ordered before) (e : Node) (t : Tree) (g : Grown (e ∷ t)) (free : Children before t e.attachment []) where
@@ -71,7 +71,7 @@ module _ (before : Name → Name → Bool) (o : Ordered before) (e : Node) (t : 
   }
 
   alone : InSequence before (e ∷ t) (e ∷ []) (e ∷ [])
-  alone = next (childless (left_of e.name) (both_ways _ g.0)) none (childless (rightOf e.name) (both_ways _ g.0)) none none
+  alone = next (childless (left_of e.name) (both_ways _ g.0)) none (childless (right_of e.name) (both_ways _ g.0)) none none
 
   -- the children at q and their sequence, with e
   module _ (q : Attachment) (ns l : List Node) (k : Children before t q ns) (v : InSequence before t ns l) (u : InSequence before (e ∷ t) ns (flat_map (with_new e) l)) where
@@ -118,7 +118,7 @@ module _ (before : Name → Name → Bool) (o : Ordered before) (e : Node) (t : 
   with_new_lem none = none
   with_new_lem (next {n = n} {ns = ns} {ls = ls} {rs = rs} {s = s} {l = l} {r = r} kl vl kr vr vs) =
       let a = side (left_of n.name) ls l kl vl (with_new_lem vl) in
-      let b = side (rightOf n.name) rs r kr vr (with_new_lem vr) in
+      let b = side (right_of n.name) rs r kr vr (with_new_lem vr) in
       subst (λ z. InSequence before (e ∷ t) (n ∷ ns) z) (sym (regroup n l r s _ _ a.s b.s refl a.last b.first))
       (next {n = n} a.children a.sequence b.children b.sequence (with_new_lem vs))
 
@@ -164,10 +164,10 @@ module _ (before : Name → Name → Bool) (o : Ordered before) (t : Tree) where
         (sym (has_node_append (l ++ n ∷ r) s x ∙ ap (λ b. b || has_node s x) (has_node_append l (n ∷ r) x)) ∙ h))
 
   -- what follows a node that has a right child has no left child
-  pub after_right : {ns s : List Node} → InSequence before t ns s → (x : Name) → has_node s x ≡ true → (k : Node) → k ∈ t → k.attachment ≡ rightOf x → Starts (after x s)
+  pub after_right : {ns s : List Node} → InSequence before t ns s → (x : Name) → has_node s x ≡ true → (k : Node) → k ∈ t → k.attachment ≡ right_of x → Starts (after x s)
   after_right none x h k i e = absurd (both_ways false refl h)
   after_right (next {n = n} {s = s} {l = l} {r = r} kl vl kr vr vs) x h k i e =
-      starts_after x n l r s (λ q. after_right vl x q k i e) (λ q. starts vr k ((kr.are k).1 (i, e ∙ ap rightOf (sym (same_name n.name x q)))))
+      starts_after x n l r s (λ q. after_right vl x q k i e) (λ q. starts vr k ((kr.are k).1 (i, e ∙ ap right_of (sym (same_name n.name x q)))))
       (λ q. after_right vr x q k i e) (λ q. after_right vs x q k i e) h
 
 pub up_to_after : (x : Name) (s : List Node) → s ≡ up_to_name x s ++ after x s
@@ -236,12 +236,12 @@ module _ (before : Name → Name → Bool) (o : Ordered before) (t : Tree) (g : 
       at_free q r k ∙ ap₂ (λ y z. y ++ flat_map (with_new (new_node q)) z) h e
       ∙ joined_beside (with_new (new_node q)) us n bs others (rw e at (sequence_apart before o t g)) ∙ ap (λ z. us ++ (z ++ bs)) own
 
-  pub at_right : (y : Name) → has_node t y ≡ true → Children before t (rightOf y) [] → sequence before (new_node (rightOf y) ∷ t) ≡ up_to_name y s ++ new_node (rightOf y) ∷ after y s
+  pub at_right : (y : Name) → has_node t y ≡ true → Children before t (right_of y) [] → sequence before (new_node (right_of y) ∷ t) ≡ up_to_name y s ++ new_node (right_of y) ∷ after y s
   at_right y h k =
       let r = cut y s (in_sequence_lem y h) in
-      beside_node (rightOf y) h k refl (in_front_of y s) r.at (after y s) (r.at ∷ new_node (rightOf y) ∷ []) r.is
+      beside_node (right_of y) h k refl (in_front_of y s) r.at (after y s) (r.at ∷ new_node (right_of y) ∷ []) r.is
       (λ m d. rw (same_not y m.name (λ q. d (sym q ∙ sym r.name)))) (rw (r.name, same_own y))
-      ∙ sym (ap (λ z. z ++ new_node (rightOf y) ∷ after y s) r.front ∙ append_assoc (in_front_of y s) (r.at ∷ []) (new_node (rightOf y) ∷ after y s))
+      ∙ sym (ap (λ z. z ++ new_node (right_of y) ∷ after y s) r.front ∙ append_assoc (in_front_of y s) (r.at ∷ []) (new_node (right_of y) ∷ after y s))
 
   left_of_follower : (us : List Node) (n : Node) (bs : List Node) → has_node t n.name ≡ true → s ≡ us ++ n ∷ bs → Children before t (left_of n.name) []
       → sequence before (new_node (left_of n.name) ∷ t) ≡ us ++ new_node (left_of n.name) ∷ n ∷ bs
@@ -274,6 +274,6 @@ module _ (before : Name → Name → Bool) (o : Ordered before) (t : Tree) (g : 
       ∙ sym (ap (λ z. up_to p s ++ new_node (left_of n.name) ∷ z) e)
 
   pub comes_after : (p : LeftOrigin) → Origin (has_node t) p
-      → sequence before (new_node (attachmentAfter before t p) ∷ t) ≡ up_to p s ++ new_node (attachmentAfter before t p) ∷ following p s
-  unfolding attachmentAfter
+      → sequence before (new_node (attachment_after before t p) ∷ t) ≡ up_to p s ++ new_node (attachment_after before t p) ∷ following p s
+  unfolding attachment_after
   comes_after p h = attached p h (children before t (right_end_of p)) (following p s) (children_are before o t g (right_end_of p)) refl

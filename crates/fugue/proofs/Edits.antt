@@ -14,7 +14,7 @@ use Rattle.events.specs.Parts.{NamedEvent}
 use Rattle.fugue.specs.Names.{same, has, Ordered}
 use Rattle.fugue.specs.Logs.{NewestFirst, names, Distinct}
 use Rattle.fugue.specs.Tree.{Node, sequence, Grown}
-use Rattle.fugue.specs.Placements.{Placement, inserted, deleted, beyond, Placed, node_of, target_of, nodes, targets, struck, LeftOrigin, left_origin, visible, placement, placements, seen, placementIn, after, treeAt, tree, characters, text}
+use Rattle.fugue.specs.Placements.{Placement, inserted, deleted, beyond, Placed, node_of, target_of, nodes, targets, struck, LeftOrigin, left_origin, visible, placement, placements, seen, placement_in, after, tree_at, tree, characters, text}
 use Rattle.fugue.specs.Edits.{in_front_of, edit_of, edit, character_of, carry_out, Fits}
 use Rattle.fugue.proofs.Names.{same_name, same_own, has_append}
 use Rattle.fugue.proofs.Lists.{all_members, all_left, all_right, kept_like}
@@ -219,24 +219,24 @@ inserted_character before ps x (deed.Delete p) n e = go (slice_get (visible befo
 
 module _ (before : Name → Name → Bool) where
   pub struck_step : (e : NamedEvent) (log : NewestFirst) (x : Name)
-      → struck (placements before (e ∷ log)) x ≡ (has (target_of (placementIn before log e)) x || struck (placements before log) x)
-  unfolding placements placementIn seen targets
-  struck_step e log x = has_append (target_of (placementIn before log e)) (targets (placements before log)) x
+      → struck (placements before (e ∷ log)) x ≡ (has (target_of (placement_in before log e)) x || struck (placements before log) x)
+  unfolding placements placement_in seen targets
+  struck_step e log x = has_append (target_of (placement_in before log e)) (targets (placements before log)) x
 
   -- what is struck is a node
   pub struck_node : (log : NewestFirst) (x : Name) → struck (placements before log) x ≡ true → has_node (tree before log) x ≡ true
   unfolding placements targets
   struck_node [] x h = absurd (both_ways false refl h)
   struck_node (e ∷ log) x h =
-      rw (tree_step before e log) (has_node_append (node_of (placementIn before log e)) (tree before log) x ∙ in_old (elim (or_cases _ _ (sym (struck_step e log x) ∙ h)) [
-        | inl i ↦ new (placementIn before log e) (sound_in before e log) i
+      rw (tree_step before e log) (has_node_append (node_of (placement_in before log e)) (tree before log) x ∙ in_old (elim (or_cases _ _ (sym (struck_step e log x) ∙ h)) [
+        | inl i ↦ new (placement_in before log e) (sound_in before e log) i
         | inr i ↦ struck_node log x i
       ]))
     where
-      in_old : has_node (tree before log) x ≡ true → (has_node (node_of (placementIn before log e)) x || has_node (tree before log) x) ≡ true
+      in_old : has_node (tree before log) x ≡ true → (has_node (node_of (placement_in before log e)) x || has_node (tree before log) x) ≡ true
       in_old k = grind arith
 
-      new : (m : Placement) → Fitting (treeAt before log e.parents) e.name m → has (target_of m) x ≡ true → has_node (tree before log) x ≡ true
+      new : (m : Placement) → Fitting (tree_at before log e.parents) e.name m → has (target_of m) x ≡ true → has_node (tree before log) x ≡ true
       new (inserted n) s i = absurd (both_ways false refl i)
       new (deleted y) s i = elim (or_cases _ _ i) [
         | inl q ↦ (part_has before log e.parents x (rw (same_name y x q) at s)).0
@@ -258,20 +258,20 @@ module _ (before : Name → Name → Bool) where
     unfolding tree
     g = grown_log before log u.1
 
-    inserted_here : (n : Node) → placementIn before log e ≡ inserted n → character_of e.deed ≡ n.character ∷ []
-    unfolding placementIn
+    inserted_here : (n : Node) → placement_in before log e ≡ inserted n → character_of e.deed ≡ n.character ∷ []
+    unfolding placement_in
     inserted_here n q = inserted_character before (seen before log e.parents) e.name e.deed n q
 
-    sound_here : Fitting (nodes ps) e.name (placementIn before log e)
+    sound_here : Fitting (nodes ps) e.name (placement_in before log e)
     unfolding tree
-    sound_here = sound_more (placementIn before log e) (sound_in before e log)
+    sound_here = sound_more (placement_in before log e) (sound_in before e log)
       where
-        sound_more : (m : Placement) → Fitting (treeAt before log e.parents) e.name m → Fitting (tree before log) e.name m
+        sound_more : (m : Placement) → Fitting (tree_at before log e.parents) e.name m → Fitting (tree before log) e.name m
         sound_more (inserted n) s = (s.0, attached_like _ _ (λ x h. (part_has before log e.parents x h).0) n.attachment s.1)
         sound_more (deleted y) s = (part_has before log e.parents y s).0
         sound_more beyond s = tt
 
     pub edit_gives : (text before (e ∷ log) ≡ carry_out e (edit before log e) (text before log)) × Fits (edit before log e) (text before log)
-    unfolding text edit placements placementIn seen tree
+    unfolding text edit placements placement_in seen tree
     edit_gives =
-        does_placement before o ps g e (placementIn before log e) sound_here (fresh_node before e log u.0) (fresh_struck e log u.0) inserted_here
+        does_placement before o ps g e (placement_in before log e) sound_here (fresh_node before e log u.0) (fresh_struck e log u.0) inserted_here

@@ -6,7 +6,7 @@ use Rattle.std.proofs.ByRecursion.{all_kept_by, All-weaker, kept_by_passes}
 use Rattle.events.specs.declared.name.Name.{Name}
 use Rattle.fugue.specs.Names.{◌∈◌, same}
 pub use Rattle.fugue.specs.Tree.{has_node, ClosedPart}
-use Rattle.fugue.specs.Tree.{Attachment, root, left_of, rightOf, same_attachment, Node, Tree, children, only, AttachedTo, Grown}
+use Rattle.fugue.specs.Tree.{Attachment, root, left_of, right_of, same_attachment, Node, Tree, children, only, AttachedTo, Grown}
 use Rattle.fugue.proofs.Lists.{all_member, all_both}
 use Rattle.fugue.proofs.Names.{attachment_is, same_name, same_own}
 use Rattle.fugue.proofs.Sorted.{Apart, all_sorted}
@@ -49,7 +49,7 @@ all_children before P t q a =
 pub attached_like : (p q : Name → Bool) → ((x : Name) → p x ≡ true → q x ≡ true) → (w : Attachment) → AttachedTo p w → AttachedTo q w
 attached_like p q h root a = tt
 attached_like p q h (left_of x) a = h x a
-attached_like p q h (rightOf x) a = h x a
+attached_like p q h (right_of x) a = h x a
 
 -- every node is attached inside the tree
 pub inside : (t : Tree) → Grown t → AllByRecursion (λ n. (has_node t n.name ≡ true) × AttachedTo (has_node t) n.attachment) t
@@ -81,7 +81,7 @@ age_own n older = rw (same_own n.name)
 abbrev pub OnOlder : (Name → ℕ) → Attachment → ℕ → Type 0
 OnOlder age root k = Unit {0}
 OnOlder age (left_of x) k = age x < k
-OnOlder age (rightOf x) k = age x < k
+OnOlder age (right_of x) k = age x < k
 
 abbrev pub Aged : ℕ → (Name → ℕ) → Node → Type 0
 Aged size age n = (age n.name < size) × OnOlder age n.attachment (age n.name)
@@ -90,13 +90,13 @@ on_like : (r s : Name → ℕ) (p : Name → Bool) → ((x : Name) → p x ≡ t
     → OnOlder r w j → OnOlder s w k
 on_like r s p h root j k a e u = tt
 on_like r s p h (left_of x) j k a e u = let f = h x a in omega (arith, f)
-on_like r s p h (rightOf x) j k a e u = let f = h x a in omega (arith, f)
+on_like r s p h (right_of x) j k a e u = let f = h x a in omega (arith, f)
 
 on_new : (t : Tree) (s : Name → ℕ) → ((x : Name) → has_node t x ≡ true → s x ≡ age t x) → (w : Attachment) (k : ℕ) → k ≡ length t
     → AttachedTo (has_node t) w → OnOlder s w k
 on_new t s h root k e a = tt
 on_new t s h (left_of x) k e a = let f = h x a in let l = age_below t x a in omega (arith, f, l)
-on_new t s h (rightOf x) k e a = let f = h x a in let l = age_below t x a in omega (arith, f, l)
+on_new t s h (right_of x) k e a = let f = h x a in let l = age_below t x a in omega (arith, f, l)
 
 pub aged : (t : Tree) → Grown t → AllByRecursion (Aged (length t) (age t)) t
 aged [] g = tt
@@ -132,7 +132,7 @@ lacks_only p t x h = elim (cases_Bool (has_node (only p t) x)) [ inl e ↦ absur
 attached_only : (p : Name → Bool) (t : Tree) (w : Attachment) → AttachedTo (has_node t) w → AttachedTo p w → AttachedTo (has_node (only p t)) w
 attached_only p t root h g = tt
 attached_only p t (left_of x) h g = has_only p t x h g
-attached_only p t (rightOf x) h g = has_only p t x h g
+attached_only p t (right_of x) h g = has_only p t x h g
 
 pub grown_only : (p : Name → Bool) (t : Tree) → Grown t → ClosedPart p t → Grown (only p t)
 grown_only p [] g c = tt

@@ -4,7 +4,7 @@ use Rattle.std.proofs.lemmas.Bool.{eqb-true, eq-eqb, and_parts, and_from, or_cas
 use Rattle.events.specs.declared.name.Name.{Name}
 use Rattle.events.specs.Same.{name_is}
 use Rattle.fugue.specs.Names.{◌∈◌, same, has, Ordered}
-use Rattle.fugue.specs.Tree.{Attachment, root, left_of, rightOf, same_attachment}
+use Rattle.fugue.specs.Tree.{Attachment, root, left_of, right_of, same_attachment}
 
 pub same_name : (a b : Name) → same a b ≡ true → a ≡ b
 same_name a b h =
@@ -40,18 +40,18 @@ has_alike xs ys g h x =
 pub attachment_is : (p q : Attachment) → same_attachment p q ≡ true → p ≡ q
 attachment_is root root h = refl
 attachment_is root (left_of b) h = absurd (both_ways false refl h)
-attachment_is root (rightOf b) h = absurd (both_ways false refl h)
+attachment_is root (right_of b) h = absurd (both_ways false refl h)
 attachment_is (left_of a) root h = absurd (both_ways false refl h)
 attachment_is (left_of a) (left_of b) h = ap left_of (same_name a b h)
-attachment_is (left_of a) (rightOf b) h = absurd (both_ways false refl h)
-attachment_is (rightOf a) root h = absurd (both_ways false refl h)
-attachment_is (rightOf a) (left_of b) h = absurd (both_ways false refl h)
-attachment_is (rightOf a) (rightOf b) h = ap rightOf (same_name a b h)
+attachment_is (left_of a) (right_of b) h = absurd (both_ways false refl h)
+attachment_is (right_of a) root h = absurd (both_ways false refl h)
+attachment_is (right_of a) (left_of b) h = absurd (both_ways false refl h)
+attachment_is (right_of a) (right_of b) h = ap right_of (same_name a b h)
 
 pub attachment_refl : (p : Attachment) → same_attachment p p ≡ true
 attachment_refl root = refl
 attachment_refl (left_of a) = same_own a
-attachment_refl (rightOf a) = same_own a
+attachment_refl (right_of a) = same_own a
 
 -- of two names one comes first, or they are one
 pub order_cases : (before : Name → Name → Bool) → Ordered before → (a b : Name) → (before a b ≡ true) ⊎ ((a ≡ b) ⊎ (before b a ≡ true))

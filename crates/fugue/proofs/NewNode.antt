@@ -8,9 +8,9 @@ use Rattle.events.specs.declared.deed.Deed.TheVariants.{Insert}
 use Rattle.events.specs.Parts.{NamedEvent}
 use Rattle.fugue.specs.Names.{◌∈◌, Rising, has, Ordered}
 use Rattle.fugue.specs.Logs.{NewestFirst, version, Distinct}
-use Rattle.fugue.specs.Tree.{Attachment, root, left_of, rightOf, Node, Tree, sequence, AttachedTo, Grown}
+use Rattle.fugue.specs.Tree.{Attachment, root, left_of, right_of, Node, Tree, sequence, AttachedTo, Grown}
 use Rattle.fugue.specs.Paths.{end, steps_to, steps, path, path_before, precedes}
-use Rattle.fugue.specs.Placements.{inserted, LeftOrigin, start, node, left_origin, following, visible, attachmentAfter, placement, seen, placementIn, treeAt, tree}
+use Rattle.fugue.specs.Placements.{inserted, LeftOrigin, start, node, left_origin, following, visible, attachment_after, placement, seen, placement_in, tree_at, tree}
 use Rattle.fugue.specs.Theorems.{NewNode}
 use Rattle.std.proofs.lemmas.Bool.{both_ways, cases_Bool}
 use Rattle.fugue.proofs.Lists.{all_member, all_members, member_kept, in_either, rises_right, rises_across}
@@ -31,7 +31,7 @@ module _ (a b : Tree) (ga : Grown a) (gb : Grown b) (sub : (n : Node) → n ∈ 
   to_same : (older : Tree) → AllByRecursion (λ n. Same n.name) older → (q : Attachment) (x : Name) → AttachedTo (has_node older) q → steps_to (steps a) q x ≡ steps_to (steps b) q x
   to_same older s root x h = refl
   to_same older s (left_of y) x h = rw (by_node older s y h)
-  to_same older s (rightOf y) x h = rw (by_node older s y h)
+  to_same older s (right_of y) x h = rw (by_node older s y h)
 
   steps_same : (older : Tree) → Grown older → ((n : Node) → n ∈ older → n ∈ a) → AllByRecursion (λ n. Same n.name) older
   steps_same [] g in_a = tt
@@ -45,38 +45,38 @@ module _ (a b : Tree) (ga : Grown a) (gb : Grown b) (sub : (n : Node) → n ∈ 
   path_same n i = ap (λ z. z ++ end ∷ []) (all_member _ a n (steps_same a ga (λ m j. j)) i)
 
 -- by the tree of the parents' version
-module _ (before : Name → Name → Bool) (o : Ordered before) (seenTree : Tree) (g : Grown seenTree) (p : LeftOrigin) (h : Origin (has_node seenTree) p)
-    (x : Name) (c : Character) (f : has_node seenTree x ≡ false) where
+module _ (before : Name → Name → Bool) (o : Ordered before) (seen_tree : Tree) (g : Grown seen_tree) (p : LeftOrigin) (h : Origin (has_node seen_tree) p)
+    (x : Name) (c : Character) (f : has_node seen_tree x ≡ false) where
   abbrev pub new : Node
-  new = record { name = x; character = c; attachment = attachmentAfter before seenTree p }
+  new = record { name = x; character = c; attachment = attachment_after before seen_tree p }
 
   abbrev s : List Node
-  s = sequence before seenTree
+  s = sequence before seen_tree
 
-  pub grown_new : Grown (new ∷ seenTree)
-  grown_new = (f, attachment_inside before seenTree p h, g)
+  pub grown_new : Grown (new ∷ seen_tree)
+  grown_new = (f, attachment_inside before seen_tree p h, g)
 
-  pub comes_in : sequence before (new ∷ seenTree) ≡ up_to p s ++ new ∷ following p s
-  comes_in = comes_after before o seenTree g x c f p h
+  pub comes_in : sequence before (new ∷ seen_tree) ≡ up_to p s ++ new ∷ following p s
+  comes_in = comes_after before o seen_tree g x c f p h
 
-  module _ (t : Tree) (gt : Grown t) (sub : (n : Node) → n ∈ (new ∷ seenTree) → n ∈ t) where
+  module _ (t : Tree) (gt : Grown t) (sub : (n : Node) → n ∈ (new ∷ seen_tree) → n ∈ t) where
     abbrev Before : Node → Node → Type 0
     Before m n = precedes before t m.name n.name ≡ true
 
-    order : (l : List Node) → ((n : Node) → n ∈ l → n ∈ (new ∷ seenTree)) → Rising (λ m n. precedes before (new ∷ seenTree) m.name n.name ≡ true) l → Rising Before l
+    order : (l : List Node) → ((n : Node) → n ∈ l → n ∈ (new ∷ seen_tree)) → Rising (λ m n. precedes before (new ∷ seen_tree) m.name n.name ≡ true) l → Rising Before l
     order [] k r = tt
     order (m ∷ l) k r = (
       all_members _ l (λ n i. sym (ap₂ (path_before before) (own m (k m (inl refl))) (own n (k n (inr i)))) ∙ all_member _ l n r.0 i),
       order l (λ n i. k n (inr i)) r.1,
     )
       where
-        own : (n : Node) → n ∈ (new ∷ seenTree) → path (new ∷ seenTree) n.name ≡ path t n.name
-        own = path_same (new ∷ seenTree) t grown_new gt sub
+        own : (n : Node) → n ∈ (new ∷ seen_tree) → path (new ∷ seen_tree) n.name ≡ path t n.name
+        own = path_same (new ∷ seen_tree) t grown_new gt sub
 
     placed : Rising Before (up_to p s ++ new ∷ following p s)
     placed =
-        order (up_to p s ++ new ∷ following p s) (λ n i. (members before o (new ∷ seenTree) grown_new n).0 (rw comes_in i))
-        (rw comes_in at (by_paths before o (new ∷ seenTree) grown_new))
+        order (up_to p s ++ new ∷ following p s) (λ n i. (members before o (new ∷ seen_tree) grown_new n).0 (rw comes_in i))
+        (rw comes_in at (by_paths before o (new ∷ seen_tree) grown_new))
 
     earlier : (m : Node) → m ∈ up_to p s → precedes before t m.name x ≡ not (has_node (following p s) m.name)
     earlier m i = rises_across Before (up_to p s) (new ∷ following p s) placed m new i (inl refl) ∙ sym (ap not (lacks (cases_Bool (has_node (following p s) m.name))))
@@ -115,20 +115,20 @@ origin_in t ns a (suc p) (node y) e = go ns a p e
 module _ (before : Name → Name → Bool) (o : Ordered before) (log : NewestFirst) (e : NamedEvent) (u : Distinct (e ∷ log)) (c : Character) (p : Position)
     (d : e.deed ≡ Insert c p) (q : LeftOrigin) (found : left_origin (visible before (seen before log e.parents)) p.at ≡ Some q) where
   abbrev parents : Tree
-  parents = treeAt before log e.parents
+  parents = tree_at before log e.parents
 
   abbrev node' : Node
-  node' = record { name = e.name; character = c; attachment = attachmentAfter before parents q }
+  node' = record { name = e.name; character = c; attachment = attachment_after before parents q }
 
-  is_placed : placementIn before log e ≡ inserted node'
-  unfolding placementIn placement treeAt
+  is_placed : placement_in before log e ≡ inserted node'
+  unfolding placement_in placement tree_at
   is_placed = rw (d, found)
 
   tree_new : tree before (e ∷ log) ≡ node' ∷ tree before log
   tree_new = tree_step before e log ∙ rw is_placed
 
   origin : Origin (has_node parents) q
-  unfolding treeAt
+  unfolding tree_at
   origin = origin_in parents (visible before (seen before log e.parents)) (visible_in before (seen before log e.parents)) p.at q found
 
   fresh_parents : has_node parents e.name ≡ false

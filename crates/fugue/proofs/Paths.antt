@@ -1,11 +1,11 @@
--- The sequence is the list of the nodes that rises-by-path by their paths.
+-- The sequence is the list of the nodes that rises by their paths.
 use Rattle.std.proofs.Common.{◌≡◌, Bool, true, false, ◌⊎◌, ◌↔◌, List, [], ◌∷◌, ◌++◌, refl, ap, ◌∙◌, inl, inr, append_assoc, arith}
 use Rattle.std.specs.List.{AllByRecursion}
 use Rattle.std.proofs.lemmas.Bool.{both_ways}
 use Rattle.std.proofs.ByRecursion.{All-weaker, All-append}
 use Rattle.events.specs.declared.name.Name.{Name}
 use Rattle.fugue.specs.Names.{◌∈◌, Rising, Ordered}
-use Rattle.fugue.specs.Tree.{Attachment, root, left_of, rightOf, Node, Tree, sequence, AttachedTo, Grown, Children, InSequence, none, next, SequenceOf}
+use Rattle.fugue.specs.Tree.{Attachment, root, left_of, right_of, Node, Tree, sequence, AttachedTo, Grown, Children, InSequence, none, next, SequenceOf}
 use Rattle.fugue.specs.Paths.{Step, left, end, right, steps_to, steps, path, step_before, path_before, precedes}
 use Rattle.fugue.specs.Theorems.{PathOrder}
 use Rattle.fugue.proofs.Names.{same_own, order_cases}
@@ -65,7 +65,7 @@ pub to_older : (n : Node) (older : Tree) → has_node older n.name ≡ false →
     → steps_to (steps older) q x ≡ steps_to (steps (n ∷ older)) q x
 to_older n older f root x h = refl
 to_older n older f (left_of y) x h = rw (steps_older n older f y h)
-to_older n older f (rightOf y) x h = rw (steps_older n older f y h)
+to_older n older f (right_of y) x h = rw (steps_older n older f y h)
 
 pub steps_own : (n : Node) (older : Tree) → steps (n ∷ older) n.name ≡ steps_to (steps older) n.attachment n.name
 unfolding steps
@@ -111,8 +111,8 @@ module _ (before : Name → Name → Bool) (o : Ordered before) (t : Tree) (w : 
   lefts : (n : Node) (ls : List Node) → Children before t (left_of n.name) ls → AllByRecursion (λ k. AnyName k.name × (w k.name ≡ w n.name ++ left k.name ∷ [])) ls
   lefts n ls k = All-weaker _ _ (λ m h. (tt, h)) ls (attached (left_of n.name) ls k)
 
-  rights : (n : Node) (rs : List Node) → Children before t (rightOf n.name) rs → AllByRecursion (λ k. AnyName k.name × (w k.name ≡ w n.name ++ right k.name ∷ [])) rs
-  rights n rs k = All-weaker _ _ (λ m h. (tt, h)) rs (attached (rightOf n.name) rs k)
+  rights : (n : Node) (rs : List Node) → Children before t (right_of n.name) rs → AllByRecursion (λ k. AnyName k.name × (w k.name ≡ w n.name ++ right k.name ∷ [])) rs
+  rights n rs k = All-weaker _ _ (λ m h. (tt, h)) rs (attached (right_of n.name) rs k)
 
   through : {ns s : List Node} → InSequence before t ns s → (u : List Step) (c : Name → Step) (P : Name → Type 0)
       → AllByRecursion (λ k. P k.name × (w k.name ≡ u ++ c k.name ∷ [])) ns → AllByRecursion (GoesBy u c P) s
@@ -142,7 +142,7 @@ module _ (before : Name → Name → Bool) (o : Ordered before) (t : Tree) (w : 
       rises_joined Precedes (l ++ n ∷ r) s
       (rises_joined Precedes l (n ∷ r) (rises_by_path vl (w n.name) left (λ _ _ e. e) (attached (left_of n.name) ls kl) kl.rise) (
         (parted (w n.name) (λ _. end) right AnyName AnyName (λ _ _ _ _. refl) (n ∷ []) r (ends_here n) ar).0,
-        rises_by_path vr (w n.name) right (λ _ _ e. e) (attached (rightOf n.name) rs kr) kr.rise,
+        rises_by_path vr (w n.name) right (λ _ _ e. e) (attached (right_of n.name) rs kr) kr.rise,
       )
       (All-weaker _ _ (λ m g. (g.0.0, g.1)) l
       (all_both _ _ l (parted (w n.name) left (λ _. end) AnyName AnyName (λ _ _ _ _. refl) l (n ∷ []) al (ends_here n))
@@ -160,7 +160,7 @@ module _ (before : Name → Name → Bool) (t : Tree) where
   sibling_in (next {n = n} {s = s} {l = l} {r = r} kl vl kr vr vs) k (inr i) = in_right (l ++ n ∷ r) s k (sibling_in vs k i)
 
   child_in : {ns s : List Node} → InSequence before t ns s → (m k : Node) → m ∈ s → k ∈ t
-      → (k.attachment ≡ left_of m.name) ⊎ (k.attachment ≡ rightOf m.name) → k ∈ s
+      → (k.attachment ≡ left_of m.name) ⊎ (k.attachment ≡ right_of m.name) → k ∈ s
   child_in none m k i h e = elim i [ ]
   child_in (next {n = n} {s = s} {l = l} {r = r} kl vl kr vr vs) m k i h e =
       elim (in_either (l ++ n ∷ r) s m i) [
@@ -187,7 +187,7 @@ module _ (before : Name → Name → Bool) (o : Ordered before) (t : Tree) (g : 
   joins n older (left_of x) e h i a =
       let r = node_of_lem older x h in
       child_in before t seq.in_sequence r.0 n (all_member _ older r.0 a r.1) i (inl (rw r.2 e))
-  joins n older (rightOf x) e h i a =
+  joins n older (right_of x) e h i a =
       let r = node_of_lem older x h in
       child_in before t seq.in_sequence r.0 n (all_member _ older r.0 a r.1) i (inr (rw r.2 e))
 

@@ -12,7 +12,7 @@ use Rattle.events.specs.Parts.{NamedEvent}
 use Rattle.fugue.specs.Names.{◌∈◌, same, has, Ordered}
 use Rattle.fugue.specs.Logs.{NewestFirst, names, version, Distinct}
 use Rattle.fugue.specs.Tree.{Attachment, Node, Tree, sequence, only, AttachedTo, Grown}
-use Rattle.fugue.specs.Placements.{Placement, inserted, deleted, beyond, Placed, node_of, nodes, LeftOrigin, start, node, left_origin, right_end_of, after, following, attached_by, part_of, visible, attachmentAfter, placement, placements, seen, placementIn, treeAt, tree}
+use Rattle.fugue.specs.Placements.{Placement, inserted, deleted, beyond, Placed, node_of, nodes, LeftOrigin, start, node, left_origin, right_end_of, after, following, attached_by, part_of, visible, attachment_after, placement, placements, seen, placement_in, tree_at, tree}
 use Rattle.fugue.proofs.Lists.{all_member, all_members, kept_twice}
 use Rattle.fugue.proofs.Names.{same_name, same_own, has_in, in_has}
 use Rattle.fugue.proofs.Grown.{has_node_append, has_node, has_own, attached_like, inside, ClosedPart, only_has, grown_only}
@@ -28,7 +28,7 @@ abbrev pub deleted_at : Option Node → Placement
 deleted_at n = unwrap_or (option_map (λ m. deleted m.name) n) beyond
 
 abbrev pub inserted_at : (Name → Name → Bool) → List Placed → Name → Character → Option LeftOrigin → Placement
-inserted_at before ps x c o = unwrap_or (option_map (λ q. inserted record { name = x; character = c; attachment = attachmentAfter before (nodes ps) q }) o) beyond
+inserted_at before ps x c o = unwrap_or (option_map (λ q. inserted record { name = x; character = c; attachment = attachment_after before (nodes ps) q }) o) beyond
 
 -- a placement has the event's name, and speaks of nodes of the tree
 abbrev pub Fitting : Tree → Name → Placement → Type 0
@@ -62,8 +62,8 @@ module _ (before : Name → Name → Bool) where
   pub in_tree : (t : Tree) → AllByRecursion (λ n. has_node t n.name ≡ true) (sequence before t)
   in_tree t = all_sequence before _ t (has_own t)
 
-  pub attachment_inside : (t : Tree) (o : LeftOrigin) → Origin (has_node t) o → AttachedTo (has_node t) (attachmentAfter before t o)
-  unfolding attachmentAfter
+  pub attachment_inside : (t : Tree) (o : LeftOrigin) → Origin (has_node t) o → AttachedTo (has_node t) (attachment_after before t o)
+  unfolding attachment_after
   attachment_inside t o h = attached_by_lem (has_node t) _ _ (right_end_of o) (all_following _ o _ (in_tree t)) (right_end (has_node t) o h)
 
   insert_sound : (ps : List Placed) (x : Name) (c : Character) (o : LeftOrigin) → Origin (has_node (nodes ps)) o → Fitting (nodes ps) x (inserted_at before ps x c (Some o))
@@ -155,27 +155,27 @@ module _ (before : Name → Name → Bool) where
   unfolding tree placements nodes
   tree_none = refl
 
-  pub tree_step : (e : NamedEvent) (older : NewestFirst) → tree before (e ∷ older) ≡ node_of (placementIn before older e) ++ tree before older
-  unfolding tree placements placementIn seen nodes
+  pub tree_step : (e : NamedEvent) (older : NewestFirst) → tree before (e ∷ older) ≡ node_of (placement_in before older e) ++ tree before older
+  unfolding tree placements placement_in seen nodes
   tree_step e older = refl
 
   -- the tree of a version is that part of the log's tree
-  pub tree_part : (log : NewestFirst) (heads : List Name) → treeAt before log heads ≡ only (has (version log heads)) (tree before log)
-  unfolding treeAt tree seen
+  pub tree_part : (log : NewestFirst) (heads : List Name) → tree_at before log heads ≡ only (has (version log heads)) (tree before log)
+  unfolding tree_at tree seen
   tree_part log heads = nodes_part (has (version log heads)) (placements before log) (own log)
 
-  pub sound_in : (e : NamedEvent) (older : NewestFirst) → Fitting (treeAt before older e.parents) e.name (placementIn before older e)
-  unfolding treeAt placementIn
+  pub sound_in : (e : NamedEvent) (older : NewestFirst) → Fitting (tree_at before older e.parents) e.name (placement_in before older e)
+  unfolding tree_at placement_in
   sound_in e older = placement_sound before (seen before older e.parents) e.name e.deed
 
-  pub part_has : (log : NewestFirst) (heads : List Name) (x : Name) → has_node (treeAt before log heads) x ≡ true
+  pub part_has : (log : NewestFirst) (heads : List Name) (x : Name) → has_node (tree_at before log heads) x ≡ true
       → (has_node (tree before log) x ≡ true) × (has (version log heads) x ≡ true)
   part_has log heads x h = only_has (has (version log heads)) (tree before log) x (rw (tree_part log heads) at h)
 
   pub node_held : (log : NewestFirst) (x : Name) → has_node (tree before log) x ≡ true → has (names log) x ≡ true
   node_held [] x h = absurd (both_ways false refl (rw tree_none at h))
   node_held (e ∷ older) x h =
-      let m = placementIn before older e in
+      let m = placement_in before older e in
       elim (or_cases _ _ (sym (has_node_append (node_of m) (tree before older) x) ∙ (rw (tree_step e older) at h))) [
         | inl i ↦ or_left (same e.name x) _ (rw (new_name _ e.name m (sound_in e older) x i) (same_own x))
         | inr i ↦ or_right (same e.name x) _ (node_held older x i)
@@ -191,14 +191,14 @@ module _ (before : Name → Name → Bool) where
   grown_log [] u = rw tree_none tt
   grown_log (e ∷ older) u =
       rw (tree_step e older)
-      (grown_on (treeAt before older e.parents) (tree before older) e.name (placementIn before older e) (sound_in e older) (fresh_node e older u.0)
+      (grown_on (tree_at before older e.parents) (tree before older) e.name (placement_in before older e) (sound_in e older) (fresh_node e older u.0)
       (λ x h. (part_has older e.parents x h).0) (grown_log older u.1))
 
   pub closed_log : (log : NewestFirst) → Distinct log → (heads : List Name) → ClosedPart (has (version log heads)) (tree before log)
   closed_log [] u heads = rw tree_none tt
   closed_log (e ∷ older) u heads =
       rw (tree_step e older)
-      (closed_more (treeAt before older e.parents) (tree before older) e.name (placementIn before older e)
+      (closed_more (tree_at before older e.parents) (tree before older) e.name (placement_in before older e)
       (has (version older (reach e heads))) (has (version (e ∷ older) heads)) (sound_in e older) (fresh_node e older u.0)
       (λ x h v. elim (version_cases e older heads x v) [
         | inl q ↦ absurd (both_ways _ u.0 (rw q.1 (node_held older x h)))
@@ -211,21 +211,21 @@ module _ (before : Name → Name → Bool) where
       ])
       (closed_log older u.1 (reach e heads)))
 
-  pub grown_part : (log : NewestFirst) → Distinct log → (heads : List Name) → Grown (treeAt before log heads)
+  pub grown_part : (log : NewestFirst) → Distinct log → (heads : List Name) → Grown (tree_at before log heads)
   grown_part log u heads = rw (tree_part log heads) (grown_only (has (version log heads)) (tree before log) (grown_log log u) (closed_log log u heads))
 
-  pub inside_part : (log : NewestFirst) → Distinct log → (heads : List Name) → AllByRecursion (λ n. AttachedTo (has_node (treeAt before log heads)) n.attachment) (treeAt before log heads)
-  inside_part log u heads = All-weaker _ _ (λ n h. h.1) (treeAt before log heads) (inside (treeAt before log heads) (grown_part log u heads))
+  pub inside_part : (log : NewestFirst) → Distinct log → (heads : List Name) → AllByRecursion (λ n. AttachedTo (has_node (tree_at before log heads)) n.attachment) (tree_at before log heads)
+  inside_part log u heads = All-weaker _ _ (λ n h. h.1) (tree_at before log heads) (inside (tree_at before log heads) (grown_part log u heads))
 
   module _ (o : Ordered before) where
     -- a version's sequence by that of the whole log
     pub sequence_version : (log : NewestFirst) → Distinct log → (heads : List Name)
-        → sequence before (treeAt before log heads) ≡ only (has (version log heads)) (sequence before (tree before log))
+        → sequence before (tree_at before log heads) ≡ only (has (version log heads)) (sequence before (tree before log))
     sequence_version log u heads =
         ap (sequence before) (tree_part log heads) ∙ sequence_part before o (has (version log heads)) (tree before log) (grown_log log u) (closed_log log u heads)
 
     pub nested : (log : NewestFirst) → Distinct log → (heads more : List Name) → ((x : Name) → x ∈ version log heads → x ∈ version log more)
-        → sequence before (treeAt before log heads) ≡ only (has (version log heads)) (sequence before (treeAt before log more))
+        → sequence before (tree_at before log heads) ≡ only (has (version log heads)) (sequence before (tree_at before log more))
     nested log u heads more h =
         sequence_version log u heads
         ∙ sym (ap (only (has (version log heads))) (sequence_version log u more)

@@ -8,7 +8,7 @@ use Rattle.fugue.specs.Names.{◌∈◌, same, has, Ordered}
 use Rattle.fugue.proofs.Lists.{all_members, kept_whole, Alike, all_member, kept_member, member_kept}
 use Rattle.fugue.specs.Logs.{NewestFirst, names, version, Distinct, ParentsHeld, Within, SameEvents}
 use Rattle.fugue.specs.Tree.{Node, Grown}
-use Rattle.fugue.specs.Placements.{inserted, Placed, node_of, nodes, placement, placements, seen, placementIn, treeAt, tree, characters, textAt, text}
+use Rattle.fugue.specs.Placements.{inserted, Placed, node_of, nodes, placement, placements, seen, placement_in, tree_at, tree, characters, text_at, text}
 use Rattle.fugue.specs.Edits.{edit_of, edit}
 use Rattle.fugue.proofs.Names.{same_name, same_own, has_in, in_has}
 use Rattle.fugue.proofs.Versions.{version_heads, version_held, version_mono, version_within, within_held, same_forth, same_back}
@@ -18,10 +18,10 @@ use Rattle.fugue.proofs.Alike.{characters_same, placement_same, edit_same}
 module _ (before : Name → Name → Bool) where
   -- an event that is new to a log, placed
   abbrev pub place : NewestFirst → NamedEvent → Placed
-  place log e = record { name = e.name; placement = placementIn before log e }
+  place log e = record { name = e.name; placement = placement_in before log e }
 
   pub placements_step : (e : NamedEvent) (log : NewestFirst) → placements before (e ∷ log) ≡ place log e ∷ placements before log
-  unfolding placements placementIn seen
+  unfolding placements placement_in seen
   placements_step e log = refl
 
   pub placements_none : placements before [] ≡ []
@@ -41,12 +41,12 @@ module _ (before : Name → Name → Bool) where
       kept_whole (λ p. has (version log (names log)) p.name) (placements before log)
       (all_members _ (placements before log) (λ p i. let h = placed_held log p i in version_heads log (names log) p.name h h))
 
-  pub whole : (log : NewestFirst) → (treeAt before log (names log) ≡ tree before log) × (textAt before log (names log) ≡ text before log)
-  unfolding treeAt tree textAt text
+  pub whole : (log : NewestFirst) → (tree_at before log (names log) ≡ tree before log) × (text_at before log (names log) ≡ text before log)
+  unfolding tree_at tree text_at text
   whole log = (ap nodes (seen_whole log), ap (characters before) (seen_whole log))
 
   pub placed_of : (log : NewestFirst) (x : Name) → has (names log) x ≡ true → (p : Placed) × (p ∈ placements before log) × (p.name ≡ x)
-  unfolding placements placementIn seen
+  unfolding placements placement_in seen
   placed_of [] x h = absurd (both_ways false refl h)
   placed_of (e ∷ log) x h = elim (or_cases _ _ h) [
     | inl q ↦ (place log e, inl refl, same_name e.name x q)
@@ -123,7 +123,7 @@ module _ (before : Name → Name → Bool) where
   }
 
   pub grown_seen : (log : NewestFirst) → Distinct log → (heads : List Name) → Grown (nodes (seen before log heads))
-  unfolding treeAt
+  unfolding tree_at
   grown_seen log u heads = grown_part before log u heads
 
   pub same_event : (e : NamedEvent) → SameEvent e e
@@ -132,8 +132,8 @@ module _ (before : Name → Name → Bool) where
   module _ (o : Ordered before) where
     -- the placement of a same event in two parts of one log
     pub same_placement : (b : NewestFirst) (ub : Distinct b) (kb : ParentsHeld b) (a c : NewestFirst) (e d : NamedEvent)
-        → Part b a e.parents → Part b c d.parents → SameEvent e d → placementIn before a e ≡ placementIn before c d
-    unfolding placementIn
+        → Part b a e.parents → Part b c d.parents → SameEvent e d → placement_in before a e ≡ placement_in before c d
+    unfolding placement_in
     same_placement b ub kb a c e d pa pc s =
         let h : Alike e.parents d.parents = λ x. (same_forth s x, same_back s x) in
         placement_same before o (seen before a e.parents) (seen before c d.parents) (grown_seen a pa.distinct e.parents) (grown_seen c pc.distinct d.parents)
@@ -171,8 +171,8 @@ module _ (before : Name → Name → Bool) where
       part_b : (heads : List Name) → Part b b heads
       part_b heads = record { distinct = ub; below = kb; within = λ d j. (d, j, same_event d); placed = λ p i. i; known = λ x _ h. h }
 
-      pub same_version : (heads tops : List Name) → Alike heads tops → textAt before a heads ≡ textAt before b tops
-      unfolding textAt
+      pub same_version : (heads tops : List Name) → Alike heads tops → text_at before a heads ≡ text_at before b tops
+      unfolding text_at
       same_version heads tops h =
           characters_same before o (seen before a heads) (seen before b tops) (grown_seen a ua heads) (grown_seen b ub tops)
           (seen_alike b ub kb a b heads tops (part_a heads) (part_b tops) h)
@@ -190,7 +190,7 @@ module _ (before : Name → Name → Bool) where
       same_text = characters_same before o (placements before a) (placements before b) ga gb all_alike
 
       module _ (e d : NamedEvent) (h : SameEvent e d) (f : has (names a) e.name ≡ false) where
-        same_place : placementIn before a e ≡ placementIn before b d
+        same_place : placement_in before a e ≡ placement_in before b d
         same_place = same_placement b ub kb a b e d (part_a e.parents) (part_b d.parents) h
 
         f' : has (names b) d.name ≡ false
@@ -199,13 +199,13 @@ module _ (before : Name → Name → Bool) where
           | inr q ↦ q
         ]
 
-        grown_with : (c : NewestFirst) → Distinct c → (k : NamedEvent) → has (names c) k.name ≡ false → (n : Node) → placementIn before c k ≡ inserted n → Grown (n ∷ nodes (placements before c))
+        grown_with : (c : NewestFirst) → Distinct c → (k : NamedEvent) → has (names c) k.name ≡ false → (n : Node) → placement_in before c k ≡ inserted n → Grown (n ∷ nodes (placements before c))
         unfolding tree
         grown_with c uc k fk n q = subst Grown (tree_step before k c ∙ ap (λ m. node_of m ++ tree before c) q) (grown_log before (k ∷ c) (fk, uc))
 
         pub same_edit : edit before a e ≡ edit before b d
         unfolding edit
         same_edit =
-            edit_same before o (placements before a) (placements before b) ga gb all_alike (placementIn before a e)
+            edit_same before o (placements before a) (placements before b) ga gb all_alike (placement_in before a e)
             (λ n q. (grown_with a ua e f n q, grown_with b ub d f' n (sym same_place ∙ q)))
             ∙ ap (edit_of before (placements before b)) same_place

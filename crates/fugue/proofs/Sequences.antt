@@ -6,7 +6,7 @@ use Rattle.std.proofs.ByRecursion.{All-weaker, All-append}
 use Rattle.events.specs.declared.name.Name.{Name}
 use Rattle.fugue.specs.Names.{◌∈◌, Ordered}
 use Rattle.fugue.proofs.Lists.{Alike, all_member, all_members, kept_member, rises_kept, members_decide}
-use Rattle.fugue.specs.Tree.{Attachment, root, left_of, rightOf, Node, Tree, children, sequenceFrom, sequence, Grown, Children, InSequence, none, next, SequenceOf}
+use Rattle.fugue.specs.Tree.{Attachment, root, left_of, right_of, Node, Tree, children, sequence_from, sequence, Grown, Children, InSequence, none, next, SequenceOf}
 use Rattle.fugue.proofs.Names.{attachment_refl}
 use Rattle.fugue.proofs.Sorted.{in_sorted, sorted_rises}
 use Rattle.fugue.proofs.Grown.{Aged, age, aged, all_children, names_apart}
@@ -20,12 +20,12 @@ module _ (before : Name → Name → Bool) (P : Node → Type 0) where
   children_all : (t : Tree) (q : Attachment) → AllByRecursion P t → AllByRecursion P (children before t q)
   children_all t q a = All-weaker _ P (λ n u. u.0) _ (all_children before P t q a)
 
-  all_from_node : (t : Tree) → AllByRecursion P t → (d : ℕ) (n : Node) → P n → AllByRecursion P (sequenceFrom before d t n)
-  unfolding sequenceFrom
+  all_from_node : (t : Tree) → AllByRecursion P t → (d : ℕ) (n : Node) → P n → AllByRecursion P (sequence_from before d t n)
+  unfolding sequence_from
   all_from_node t a zero n p = tt
   all_from_node t a (suc d) n p =
-      All-append P _ _ (all_in_joined (sequenceFrom before d t) (all_from_node t a d) _ (children_all t (left_of n.name) a))
-      (p, all_in_joined (sequenceFrom before d t) (all_from_node t a d) _ (children_all t (rightOf n.name) a))
+      All-append P _ _ (all_in_joined (sequence_from before d t) (all_from_node t a d) _ (children_all t (left_of n.name) a))
+      (p, all_in_joined (sequence_from before d t) (all_from_node t a d) _ (children_all t (right_of n.name) a))
 
   pub all_sequence : (t : Tree) → AllByRecursion P t → AllByRecursion P (sequence before t)
   unfolding sequence
@@ -60,21 +60,21 @@ module _ (before : Name → Name → Bool) (o : Ordered before) where
     abbrev Deep : ℕ → Node → Type 0
     Deep d n = (r n.name < size) × (size ≤ d + r n.name)
 
-    from_deeper : (d : ℕ) → ((ns : List Node) → AllByRecursion (Deep d) ns → InSequence before t ns (flat_map (sequenceFrom before d t) ns))
-        → (ns : List Node) → AllByRecursion (Deep (suc d)) ns → InSequence before t ns (flat_map (sequenceFrom before (suc d) t) ns)
-    unfolding sequenceFrom
+    from_deeper : (d : ℕ) → ((ns : List Node) → AllByRecursion (Deep d) ns → InSequence before t ns (flat_map (sequence_from before d t) ns))
+        → (ns : List Node) → AllByRecursion (Deep (suc d)) ns → InSequence before t ns (flat_map (sequence_from before (suc d) t) ns)
+    unfolding sequence_from
     from_deeper d ih [] a = none
     from_deeper d ih (n ∷ ns) a =
         next
         (children_are t g (left_of n.name))
         (ih _ (All-weaker _ _ (λ m u. let v : r n.name < r m.name = rw u.1 at u.0.1 in (u.0.0, omega arith)) _
         (all_children before (Aged size r) t (left_of n.name) good)))
-        (children_are t g (rightOf n.name))
+        (children_are t g (right_of n.name))
         (ih _ (All-weaker _ _ (λ m u. let v : r n.name < r m.name = rw u.1 at u.0.1 in (u.0.0, omega arith)) _
-        (all_children before (Aged size r) t (rightOf n.name) good)))
+        (all_children before (Aged size r) t (right_of n.name) good)))
         (from_deeper d ih ns a.1)
 
-    in_sequence_lem : (d : ℕ) (ns : List Node) → AllByRecursion (Deep d) ns → InSequence before t ns (flat_map (sequenceFrom before d t) ns)
+    in_sequence_lem : (d : ℕ) (ns : List Node) → AllByRecursion (Deep d) ns → InSequence before t ns (flat_map (sequence_from before d t) ns)
     in_sequence_lem zero [] a = none
     in_sequence_lem zero (n ∷ ns) a = absurd (omega (arith, a.0))
     in_sequence_lem (suc d) ns a = from_deeper d (in_sequence_lem d) ns a

@@ -13,7 +13,7 @@ use Rattle.fugue.specs.Names.{same, has, Ordered}
 use Rattle.fugue.specs.Logs.{NewestFirst, version, Distinct}
 use Rattle.fugue.specs.Tree.{Node, sequence, Grown}
 use Rattle.fugue.specs.Theorems.{PastTheText, asked}
-use Rattle.fugue.specs.Placements.{target_of, targets, part_of, treeAt, beyond, Placed, nodes, struck, LeftOrigin, start, node, left_origin, following, visible, characters, attachmentAfter, placement, placements, seen, placementIn, textAt}
+use Rattle.fugue.specs.Placements.{target_of, targets, part_of, tree_at, beyond, Placed, nodes, struck, LeftOrigin, start, node, left_origin, following, visible, characters, attachment_after, placement, placements, seen, placement_in, text_at}
 use Rattle.fugue.specs.Edits.{in_front_of, count_before, edit_of, carry_out}
 use Rattle.fugue.proofs.Names.{same_own, same_not, has_in, in_has, has_append}
 use Rattle.fugue.proofs.Lists.{all_member, all_members, in_left, nth_in, member_kept, kept_like, in_joined, from_joined}
@@ -87,7 +87,7 @@ module _ (before : Name → Name → Bool) (o : Ordered before) (ps : List Place
       both_ways _ f (rw q at (node_in (nodes ps) m ((members before o (nodes ps) g m).0 (rw e (in_left l r m i)))))))
 
   inserts_at : (c : Character) (q : LeftOrigin) → Origin (has_node (nodes ps)) q
-      → count_before ps x (sequence before (record { name = x; character = c; attachment = attachmentAfter before (nodes ps) q } ∷ nodes ps)) ≡ length (filter shown (up_to q s))
+      → count_before ps x (sequence before (record { name = x; character = c; attachment = attachment_after before (nodes ps) q } ∷ nodes ps)) ≡ length (filter shown (up_to q s))
   inserts_at c q h =
       let z = comes_after before o (nodes ps) g x c f q h in
       ap (count_before ps x) z
@@ -194,7 +194,7 @@ module _ (before : Name → Name → Bool) (o : Ordered before) (log : NewestFir
       let d = other_event log e u.0 p.name (placed_held before log p i) in rw d))))
 
   fresh_here : has_node (nodes ps) e.name ≡ false
-  unfolding treeAt
+  unfolding tree_at
   fresh_here = elim (cases_Bool (has_node (nodes ps) e.name)) [
     | inl h ↦ absurd (both_ways _ (fresh_node before e log u.0) (part_has before log e.parents e.name h).0)
     | inr h ↦ h
@@ -210,12 +210,12 @@ module _ (before : Name → Name → Bool) (o : Ordered before) (log : NewestFir
   g : Grown (nodes ps)
   g = grown_seen before log u.1 e.parents
 
-  pub past : (placementIn before log e ≡ beyond) ↔ PastTheText e.deed (length (textAt before log e.parents))
-  unfolding placementIn textAt
+  pub past : (placement_in before log e ≡ beyond) ↔ PastTheText e.deed (length (text_at before log e.parents))
+  unfolding placement_in text_at
   past = beyond_past before o ps g e.name fresh_here e.deed
 
-  pub shows : (placementIn before log e ≡ beyond → ⊥) → textAt before (e ∷ log) (e.name ∷ []) ≡ carry_out e (asked e.deed) (textAt before log e.parents)
-  unfolding placementIn textAt
+  pub shows : (placement_in before log e ≡ beyond → ⊥) → text_at before (e ∷ log) (e.name ∷ []) ≡ carry_out e (asked e.deed) (text_at before log e.parents)
+  unfolding placement_in text_at
   shows h =
       ap (characters before) own_seen
       ∙ (does_placement before o ps g e (placement before ps e.name e.deed) (placement_sound before ps e.name e.deed) fresh_here alive_here

@@ -3,7 +3,7 @@ use Rattle.std.specs.Prelude.{◌≢◌, ◌≤◌, ◌≡◌, ◌∷◌}
 use Rattle.fugue.specs.Vocabulary.{Bool, true, false, List, [], length, AllByRecursion, Name, NamedEvent}
 use Rattle.fugue.specs.Names.{has, ◌∈◌, Rising}
 use Rattle.fugue.specs.Logs.{NewestFirst, names, Behind}
-use Rattle.fugue.specs.Placements.{beyond, placementIn}
+use Rattle.fugue.specs.Placements.{beyond, placement_in}
 
 -- The log may go on with the event: a new name; parents that are held, at most four, none twice, none behind another; no position beyond.
 pub record Admits (before : Name → Name → Bool) (log : NewestFirst) (e : NamedEvent) : Type 0 where
@@ -12,7 +12,7 @@ pub record Admits (before : Name → Name → Bool) (log : NewestFirst) (e : Nam
   pub few : length e.parents ≤ 4
   pub once : Rising (λ p q. p ≢ q) e.parents
   pub apart : (p q : Name) → p ∈ e.parents → q ∈ e.parents → Behind log p q → ⊥
-  pub inside : placementIn before log e ≡ beyond → ⊥
+  pub inside : placement_in before log e ≡ beyond → ⊥
 
 -- each event was admitted by those before it
 abbrev pub Admissible : (Name → Name → Bool) → NewestFirst → Type 0

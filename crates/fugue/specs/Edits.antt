@@ -7,7 +7,7 @@ use Rattle.fugue.specs.declared.edit.Edit.TheVariants.{Insert, Delete, Nothing}
 use Rattle.fugue.specs.Names.{same}
 use Rattle.fugue.specs.Logs.{NewestFirst}
 use Rattle.fugue.specs.Tree.{Node, sequence}
-use Rattle.fugue.specs.Placements.{Placement, inserted, deleted, beyond, Placed, nodes, struck, placements, placementIn}
+use Rattle.fugue.specs.Placements.{Placement, inserted, deleted, beyond, Placed, nodes, struck, placements, placement_in}
 
 -- the nodes of a sequence in front of one
 abbrev pub in_front_of : Name → List Node → List Node
@@ -27,7 +27,7 @@ module _ (before : Name → Name → Bool) where
 
   -- the edit of an event that is new to the log
   unfoldable pub edit : NewestFirst → NamedEvent → Edit
-  edit log e = edit_of (placements before log) (placementIn before log e)
+  edit log e = edit_of (placements before log) (placement_in before log e)
 
 -- the character that a deed inserts, if it does
 abbrev pub character_of : Deed → List Character

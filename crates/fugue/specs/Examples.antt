@@ -7,7 +7,7 @@ use Rattle.events.specs.Orders.{author_first, number_first}
 use Rattle.fugue.specs.declared.edit.Edit.TheVariants.{Insert, Nothing}
 use Rattle.fugue.specs.Vocabulary.{ℕ, true, List, [], map, Name, Character, Position, Deed, NamedEvent}
 use Rattle.fugue.specs.Logs.{NewestFirst}
-use Rattle.fugue.specs.Placements.{beyond, placementIn, textAt, text}
+use Rattle.fugue.specs.Placements.{beyond, placement_in, text_at, text}
 use Rattle.fugue.specs.Edits.{edit}
 use Rattle.fugue.specs.Archive.{Admissible}
 
@@ -63,8 +63,8 @@ pub record Examples : Type 0 where
   pub one : spelled (text author_first just_h) ≡ codes "H"
   pub insert_at1 : spelled (text author_first (next 1 1 (insert 101 refl 1) ∷ just_h)) ≡ codes "He"
   pub delete_at0 : text author_first (next 1 1 (delete 0) ∷ just_h) ≡ []
-  pub insert_at2 : placementIn author_first just_h (next 1 1 (insert 101 refl 2)) ≡ beyond
-  pub delete_at1 : placementIn author_first just_h (next 1 1 (delete 1)) ≡ beyond
+  pub insert_at2 : placement_in author_first just_h (next 1 1 (insert 101 refl 2)) ≡ beyond
+  pub delete_at1 : placement_in author_first just_h (next 1 1 (delete 1)) ≡ beyond
   pub by_author : spelled (text author_first (inserts_b ∷ inserts_a ∷ [])) ≡ codes "AB"
   pub by_number : spelled (text number_first (inserts_b ∷ inserts_a ∷ [])) ≡ codes "BA"
   -- B first: each edit is an insert at 0
@@ -79,6 +79,6 @@ pub record Examples : Type 0 where
   pub no_edit : edit author_first (next 1 1 (delete 0) ∷ just_a) (next 2 0 (delete 0)) ≡ Nothing
   -- X and Y are both left children of b, struck or not; were struck nodes skipped, X would go to c and the text be "aYXc"
   pub both_left : spelled (text author_first typed) ≡ codes "aXYc"
-  pub before_x : spelled (textAt author_first typed (called 2 0 ∷ [])) ≡ codes "aYbc"
+  pub before_x : spelled (text_at author_first typed (called 2 0 ∷ [])) ≡ codes "aYbc"
   -- such logs meet the premises of the theorems
   pub admissible : Admissible author_first typed

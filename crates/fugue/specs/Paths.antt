@@ -2,7 +2,7 @@
 use Rattle.std.specs.Prelude.{◌&&◌, ◌||◌, ◌∷◌, ◌++◌}
 use Rattle.fugue.specs.Vocabulary.{Bool, true, false, cond, not, List, [], Name}
 use Rattle.fugue.specs.Names.{same}
-use Rattle.fugue.specs.Tree.{Attachment, root, left_of, rightOf, Tree}
+use Rattle.fugue.specs.Tree.{Attachment, root, left_of, right_of, Tree}
 
 -- a path steps to a left child or to a right child, by its name, and then ends
 pub data Step : Type 0 where
@@ -14,7 +14,7 @@ pub data Step : Type 0 where
 abbrev pub steps_to : (Name → List Step) → Attachment → Name → List Step
 steps_to steps root x = right x ∷ []
 steps_to steps (left_of y) x = steps y ++ left x ∷ []
-steps_to steps (rightOf y) x = steps y ++ right x ∷ []
+steps_to steps (right_of y) x = steps y ++ right x ∷ []
 
 -- the steps to a node of a grown tree
 unfoldable pub steps : Tree → Name → List Step

@@ -5,14 +5,14 @@
 --     LeftOrigin           the node that an insert comes after, or the root
 --     placement            of a deed, by the placed events that its author saw
 --     placements, seen     of all events of a log, newest first; of those of a version
---     placementIn          of an event that is new to a log
---     treeAt, textAt       tree and text of a version; tree and text: of all events held
+--     placement_in          of an event that is new to a log
+--     tree_at, text_at       tree and text of a version; tree and text: of all events held
 use Rattle.std.specs.Prelude.{◌∷◌}
-use Rattle.fugue.specs.Vocabulary.{ℕ, zero, suc, Bool, cond, not, List, [], map, nth, Option, Some, mapped, valueOr, kept_by, joined, Name, Character, Deed, NamedEvent}
+use Rattle.fugue.specs.Vocabulary.{ℕ, zero, suc, Bool, cond, not, List, [], map, nth, Option, Some, mapped, value_or, kept_by, joined, Name, Character, Deed, NamedEvent}
 use Rattle.events.specs.declared.deed.Deed.TheVariants.{Insert, Delete}
 use Rattle.fugue.specs.Names.{same, has}
 use Rattle.fugue.specs.Logs.{NewestFirst, version}
-use Rattle.fugue.specs.Tree.{Attachment, root, left_of, rightOf, Node, Tree, children, sequence}
+use Rattle.fugue.specs.Tree.{Attachment, root, left_of, right_of, Node, Tree, children, sequence}
 
 pub data Placement : Type 0 where
   inserted : Node → Placement
@@ -56,7 +56,7 @@ left_origin shown (suc p) = mapped (λ n. node n.name) (nth shown p)
 -- where a right child of the left origin is attached
 abbrev pub right_end_of : LeftOrigin → Attachment
 right_end_of start = root
-right_end_of (node x) = rightOf x
+right_end_of (node x) = right_of x
 
 -- the nodes of a sequence after one
 abbrev pub after : Name → List Node → List Node
@@ -86,14 +86,14 @@ module _ (before : Name → Name → Bool) where
   characters ps = map (λ n. n.character) (visible ps)
 
   -- struck nodes are children and followers as the others are
-  unfoldable pub attachmentAfter : Tree → LeftOrigin → Attachment
-  attachmentAfter t o = attached_by (children before t (right_end_of o)) (following o (sequence before t)) (right_end_of o)
+  unfoldable pub attachment_after : Tree → LeftOrigin → Attachment
+  attachment_after t o = attached_by (children before t (right_end_of o)) (following o (sequence before t)) (right_end_of o)
 
   -- a delete's target is the visible node at its position
   unfoldable pub placement : List Placed → Name → Deed → Placement
   placement ps x (Insert c p) =
-      valueOr (mapped (λ o. inserted record { name = x; character = c; attachment = attachmentAfter (nodes ps) o }) (left_origin (visible ps) p.at)) beyond
-  placement ps x (Delete p) = valueOr (mapped (λ n. deleted n.name) (nth (visible ps) p.at)) beyond
+      value_or (mapped (λ o. inserted record { name = x; character = c; attachment = attachment_after (nodes ps) o }) (left_origin (visible ps) p.at)) beyond
+  placement ps x (Delete p) = value_or (mapped (λ n. deleted n.name) (nth (visible ps) p.at)) beyond
 
   unfoldable pub placements : NewestFirst → List Placed
   placements [] = []
@@ -104,14 +104,14 @@ module _ (before : Name → Name → Bool) where
   unfoldable pub seen : NewestFirst → List Name → List Placed
   seen log heads = part_of (version log heads) (placements log)
 
-  unfoldable pub placementIn : NewestFirst → NamedEvent → Placement
-  placementIn log e = placement (seen log e.parents) e.name e.deed
+  unfoldable pub placement_in : NewestFirst → NamedEvent → Placement
+  placement_in log e = placement (seen log e.parents) e.name e.deed
 
-  unfoldable pub treeAt : NewestFirst → List Name → Tree
-  treeAt log heads = nodes (seen log heads)
+  unfoldable pub tree_at : NewestFirst → List Name → Tree
+  tree_at log heads = nodes (seen log heads)
 
-  unfoldable pub textAt : NewestFirst → List Name → List Character
-  textAt log heads = characters (seen log heads)
+  unfoldable pub text_at : NewestFirst → List Name → List Character
+  text_at log heads = characters (seen log heads)
 
   unfoldable pub tree : NewestFirst → Tree
   tree log = nodes (placements log)

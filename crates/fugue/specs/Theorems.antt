@@ -8,7 +8,7 @@ use Rattle.fugue.specs.Names.{has, Ordered, ◌∈◌, Rising}
 use Rattle.fugue.specs.Logs.{NewestFirst, names, version, InVersion, Distinct, ParentsHeld, SameEvents, log_of, numbered}
 use Rattle.fugue.specs.Tree.{Node, Tree, sequence, SequenceOf, only, node_names, Grown}
 use Rattle.fugue.specs.Paths.{Step, path, path_before, precedes}
-use Rattle.fugue.specs.Placements.{inserted, beyond, LeftOrigin, left_origin, following, visible, attachmentAfter, seen, placementIn, treeAt, textAt, tree, text}
+use Rattle.fugue.specs.Placements.{inserted, beyond, LeftOrigin, left_origin, following, visible, attachment_after, seen, placement_in, tree_at, text_at, tree, text}
 use Rattle.fugue.specs.Edits.{edit, carry_out, Fits}
 use Rattle.fugue.specs.Archive.{Admissible, ArchiveOrder}
 
@@ -21,7 +21,7 @@ VersionIsHeadsAndBehind =
 abbrev pub WholeLogIsAVersion : Type 0
 WholeLogIsAVersion =
     (before : Name → Name → Bool) (log : NewestFirst)
-    → (treeAt before log (names log) ≡ tree before log) × (textAt before log (names log) ≡ text before log)
+    → (tree_at before log (names log) ≡ tree before log) × (text_at before log (names log) ≡ text before log)
 
 -- A tree has exactly one sequence, the one computed.
 abbrev pub TreeHasOneSequence : Type 0
@@ -50,21 +50,21 @@ abbrev pub SequencesAreNested : Type 0
 SequencesAreNested =
     (before : Name → Name → Bool) → Ordered before → (log : NewestFirst) → Distinct log
     → (heads more : List Name) → ((x : Name) → x ∈ version log heads → x ∈ version log more)
-    → (sequence before (treeAt before log heads) ≡ only (has (version log heads)) (sequence before (treeAt before log more)))
-    × Grown (treeAt before log heads)
+    → (sequence before (tree_at before log heads) ≡ only (has (version log heads)) (sequence before (tree_at before log more)))
+    × Grown (tree_at before log heads)
 
 -- the node of an event e that inserts c after the left origin o
 pub record NewNode (before : Name → Name → Bool) (log : NewestFirst) (e : NamedEvent) (c : Character) (o : LeftOrigin) : Type 0 where
   pub node : Node
-  pub is : placementIn before log e ≡ inserted node
-  pub parts : (node.name ≡ e.name) × (node.character ≡ c) × (node.attachment ≡ attachmentAfter before (treeAt before log e.parents) o)
+  pub is : placement_in before log e ≡ inserted node
+  pub parts : (node.name ≡ e.name) × (node.character ≡ c) × (node.attachment ≡ attachment_after before (tree_at before log e.parents) o)
   -- it comes after exactly the nodes that precede it
   pub comes : sequence before (tree before (e ∷ log))
       ≡ kept_by (λ m. precedes before (tree before (e ∷ log)) m.name e.name) (sequence before (tree before log))
       ++ node ∷ kept_by (λ m. not (precedes before (tree before (e ∷ log)) m.name e.name)) (sequence before (tree before log))
   -- which of its parents' version are exactly those that do not follow the left origin
   pub among : AllByRecursion (λ m. precedes before (tree before (e ∷ log)) m.name e.name
-      ≡ not (has (node_names (following o (sequence before (treeAt before log e.parents)))) m.name)) (sequence before (treeAt before log e.parents))
+      ≡ not (has (node_names (following o (sequence before (tree_at before log e.parents)))) m.name)) (sequence before (tree_at before log e.parents))
 
 -- A new node goes after exactly the nodes that precede it; of its parents' version these are exactly those up to its left origin.
 abbrev pub NewNodeHasItsPlace : Type 0
@@ -87,12 +87,12 @@ asked (Delete p) = edit.Delete p.at
 abbrev pub DeedDoesWhatItSays : Type 0
 DeedDoesWhatItSays =
     (before : Name → Name → Bool) → Ordered before → (log : NewestFirst) (e : NamedEvent) → Distinct (e ∷ log)
-    → ((placementIn before log e ≡ beyond) ↔ PastTheText e.deed (length (textAt before log e.parents)))
-    × ((placementIn before log e ≢ beyond) → textAt before (e ∷ log) (e.name ∷ []) ≡ carry_out e (asked e.deed) (textAt before log e.parents))
+    → ((placement_in before log e ≡ beyond) ↔ PastTheText e.deed (length (text_at before log e.parents)))
+    × ((placement_in before log e ≢ beyond) → text_at before (e ∷ log) (e.name ∷ []) ≡ carry_out e (asked e.deed) (text_at before log e.parents))
 
 -- what two logs have in common; their archive orders are the same event by event
 pub record MeansTheSame (before : Name → Name → Bool) (a b : NewestFirst) : Type 0 where
-  pub versions : (heads tops : List Name) → ((x : Name) → x ∈ heads ↔ x ∈ tops) → textAt before a heads ≡ textAt before b tops
+  pub versions : (heads tops : List Name) → ((x : Name) → x ∈ heads ↔ x ∈ tops) → text_at before a heads ≡ text_at before b tops
   pub whole : text before a ≡ text before b
   pub edits : (e d : NamedEvent) → SameEvent e d → has (names a) e.name ≡ false → edit before a e ≡ edit before b d
   pub archives : (es fs : List NamedEvent) → ArchiveOrder before a es → ArchiveOrder before b fs → Each SameEvent es fs

@@ -13,7 +13,7 @@ use Rattle.fugue.specs.Names.{same, has, ◌∈◌, Rising}
 -- under the root, or on one side of a node
 pub data Attachment : Type 0 where
   root : Attachment
-  left_of rightOf : Name → Attachment
+  left_of right_of : Name → Attachment
 
 pub record Node : Type 0 where
   pub name : Name
@@ -27,13 +27,13 @@ Tree = List Node
 abbrev pub same_attachment : Attachment → Attachment → Bool
 same_attachment root root = true
 same_attachment root (left_of b) = false
-same_attachment root (rightOf b) = false
+same_attachment root (right_of b) = false
 same_attachment (left_of a) root = false
 same_attachment (left_of a) (left_of b) = same a b
-same_attachment (left_of a) (rightOf b) = false
-same_attachment (rightOf a) root = false
-same_attachment (rightOf a) (left_of b) = false
-same_attachment (rightOf a) (rightOf b) = same a b
+same_attachment (left_of a) (right_of b) = false
+same_attachment (right_of a) root = false
+same_attachment (right_of a) (left_of b) = false
+same_attachment (right_of a) (right_of b) = same a b
 
 module _ (before : Name → Name → Bool) where
   -- a node put among siblings in order
@@ -51,14 +51,14 @@ module _ (before : Name → Name → Bool) where
   children t q = sorted (kept_by (λ n. same_attachment n.attachment q) t)
 
   -- the sequence of a node: left children's sequences, the node, right children's; to a depth
-  unfoldable pub sequenceFrom : ℕ → Tree → Node → List Node
-  sequenceFrom zero t n = []
-  sequenceFrom (suc d) t n =
-      joined (sequenceFrom d t) (children t (left_of n.name)) ++ n ∷ joined (sequenceFrom d t) (children t (rightOf n.name))
+  unfoldable pub sequence_from : ℕ → Tree → Node → List Node
+  sequence_from zero t n = []
+  sequence_from (suc d) t n =
+      joined (sequence_from d t) (children t (left_of n.name)) ++ n ∷ joined (sequence_from d t) (children t (right_of n.name))
 
   -- the sequence of the root; no node lies deeper than there are nodes
   unfoldable pub sequence : Tree → List Node
-  sequence t = joined (sequenceFrom (length t) t) (children t root)
+  sequence t = joined (sequence_from (length t) t) (children t root)
 
 -- the list is the children at q: all nodes attached there and no others, in sibling order
 pub record Children (before : Name → Name → Bool) (t : Tree) (q : Attachment) (ns : List Node) : Type 0 where
@@ -69,7 +69,7 @@ pub record Children (before : Name → Name → Bool) (t : Tree) (q : Attachment
 pub data InSequence (before : Name → Name → Bool) (t : Tree) : List Node → List Node → Type 0 where
   none : InSequence before t [] []
   next : {n : Node} {ns ls rs s l r : List Node} → Children before t (left_of n.name) ls → InSequence before t ls l
-      → Children before t (rightOf n.name) rs → InSequence before t rs r
+      → Children before t (right_of n.name) rs → InSequence before t rs r
       → InSequence before t ns s → InSequence before t (n ∷ ns) ((l ++ n ∷ r) ++ s)
 
 -- the list is the sequence of the tree: that of the root's children
@@ -88,7 +88,7 @@ node_names ns = map (λ n. n.name) ns
 abbrev pub AttachedTo : (Name → Bool) → Attachment → Type 0
 AttachedTo p root = Unit {0}
 AttachedTo p (left_of x) = p x ≡ true
-AttachedTo p (rightOf x) = p x ≡ true
+AttachedTo p (right_of x) = p x ≡ true
 
 -- the tree has a node of that name
 abbrev pub has_node : Tree → Name → Bool

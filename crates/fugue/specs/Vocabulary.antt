@@ -3,7 +3,7 @@ pub use Rattle.std.specs.Prelude.{ℕ, zero, suc, Bool, true, false, cond, not, 
 pub use Rattle.std.specs.List.{AllZip as Each, filter as kept_by, flat_map as joined, AllByRecursion, slice_get as nth}
 pub use Rattle.std.specs.declared.option.Option.{Option}
 pub use Rattle.std.specs.declared.option.Option.TheVariants.{None, Some}
-pub use Rattle.std.specs.Option.{option_map as mapped, unwrap_or as valueOr}
+pub use Rattle.std.specs.Option.{option_map as mapped, unwrap_or as value_or}
 pub use Rattle.events.specs.declared.name.Name.{Name}
 pub use Rattle.events.specs.declared.character.Character.{Character}
 pub use Rattle.events.specs.declared.position.Position.{Position}

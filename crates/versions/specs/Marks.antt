@@ -1,7 +1,7 @@
 -- Marks: in which of two versions an event is known to be. The first has 1, the second 2, both any other but 0.
 --     Marked     a mark says that the event is in a version, told by the mark of the other alone
 --     join       the mark of what two marks say
---     one-sided      1 for a mark of one version alone, else 0
+--     one_sided      1 for a mark of one version alone, else 0
 --     mark_in     the mark of an event in a work list
 --     Spread     marks that were joined to those of some events
 use Rattle.std.specs.Prelude.{◌≡◌, ℕ, zero, suc, ◌+◌, ◌*◌, ◌<◌, cond, ◌&&◌, ◌||◌, ◌⊎◌, List, ◌==◌, ◌≢◌, nat_lt, slice_index}

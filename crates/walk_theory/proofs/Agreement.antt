@@ -7,7 +7,7 @@ use Rattle.events.specs.declared.character.Character.{Character}
 use Rattle.fugue.proofs.Grown.{inside}
 use Rattle.fugue.specs.Names.{same, Ordered}
 use Rattle.fugue.specs.Paths.{path, path_before}
-use Rattle.fugue.specs.Tree.{Attachment, root, left_of, rightOf, Node, Tree, AttachedTo, only, ClosedPart, has_node, Grown}
+use Rattle.fugue.specs.Tree.{Attachment, root, left_of, right_of, Node, Tree, AttachedTo, only, ClosedPart, has_node, Grown}
 use Rattle.fugue.proofs.Grown.{attached_like, has_only}
 use Rattle.fugue.proofs.Names.{same_name, same_own}
 use Rattle.walk_theory.specs.Origins.{Origin, new_node}
@@ -39,8 +39,8 @@ module _ (before : Name → Name → Bool) (o : Ordered before) (big small : Tre
   small_at : (later : List Node) → LaterNodes (has_node big) K later → (p : Attachment) → OnLater K (has_node later) p → AttachedTo v (attached_over before big p) → AttachedTo v (attached_over before small p)
   small_at later l root h r = attached_like K v all_small (home_in before small root) (home_attached before o small gs root tt)
   small_at later l (left_of z) h r = r
-  small_at later l (rightOf z) (inl h) r = rw h (attached_like K v all_small (home_in before small (rightOf z)) (home_attached before o small gs (rightOf z) h))
-  small_at later l (rightOf z) (inr h) r =
+  small_at later l (right_of z) (inl h) r = rw h (attached_like K v all_small (home_in before small (right_of z)) (home_attached before o small gs (right_of z) h))
+  small_at later l (right_of z) (inr h) r =
       rw (late_new before o small gs K same' later (laid_small before o big small gb gs w base later l) z h) (rw (late_new before o big gb K w later l z h) at r)
 
   -- the version is closed in the second tree
@@ -70,7 +70,7 @@ module _ (before : Name → Name → Bool) (o : Ordered before) (big small : Tre
     seat_of : (p : Attachment) → Origin (λ y. has_node t y && v y) p → OnLater K (has_node later) p
     seat_of root h = tt
     seat_of (left_of z) h = elim h [ ]
-    seat_of (rightOf z) h = elim (named_cases before o small gs K same' later z (and_parts (has_node t z) (v z) h).0) [ inl k ↦ inr k | inr k ↦ inl k ]
+    seat_of (right_of z) h = elim (named_cases before o small gs K same' later z (and_parts (has_node t z) (v z) h).0) [ inl k ↦ inr k | inr k ↦ inl k ]
 
     seated : OnLater K (has_node later) p
     seated = seat_of p q

@@ -6,12 +6,12 @@ use Rattle.std.proofs.ByRecursion.{All-weaker}
 use Rattle.events.specs.declared.name.Name.{Name}
 use Rattle.fugue.specs.Names.{same, Ordered, ◌∈◌, Rising}
 use Rattle.fugue.specs.Paths.{path, path_before}
-use Rattle.fugue.specs.Tree.{Attachment, root, left_of, rightOf, same_attachment, Node, Tree, sequence, AttachedTo, only, has_node, Grown}
+use Rattle.fugue.specs.Tree.{Attachment, root, left_of, right_of, same_attachment, Node, Tree, sequence, AttachedTo, only, has_node, Grown}
 use Rattle.fugue.proofs.Grown.{has_own, node_of_lem}
 use Rattle.fugue.proofs.Lists.{all_member, all_members, kept_member, member_kept, rises_kept, rises_cases, members_decide, all_both}
 use Rattle.fugue.proofs.Names.{same_name, same_own, attachment_is, attachment_refl}
 use Rattle.fugue.proofs.Paths.{path_transitive, by_paths, members}
-use Rattle.walk_theory.specs.Tops.{by_owner, topAt, beside_owner, comes_before}
+use Rattle.walk_theory.specs.Tops.{by_owner, top_at, beside_owner, comes_before}
 use Rattle.walk_theory.specs.Bases.{home_in, attached_over, node_over, grown_over, OnLater, LaterNodes, node_names, Agrees}
 use Rattle.walk_theory.proofs.Tops.{tops}
 use Rattle.walk_theory.proofs.Over.{never, not_both, either, home_attached, named_late, named_base, named_cases, late_new, spot_of, grown_over_lem, base_none, attached_same, path_older, new_name, judged}
@@ -126,24 +126,24 @@ module _ (before : Name → Name → Bool) (o : Ordered before) (b : Tree) (gb :
   ]
 
   root_none : (later : List Node) (l : LaterNodes (has_node b) kept later) (r : Attachment) → OnLater kept (has_node later) r → (p : Attachment) → AttachedTo (has_node b) p
-      → by_owner (topAt (grown_over before b later) (attached_over before b r)) p ≡ None
+      → by_owner (top_at (grown_over before b later) (attached_over before b r)) p ≡ None
   root_none later l r h root k = refl
   root_none later l r h (left_of y) k = base_none before o b gb kept sub later l r (spot_of before o b gb kept sub later l r h) y k
-  root_none later l r h (rightOf y) k = base_none before o b gb kept sub later l r (spot_of before o b gb kept sub later l r h) y k
+  root_none later l r h (right_of y) k = base_none before o b gb kept sub later l r (spot_of before o b gb kept sub later l r h) y k
 
-  -- what a later node's topAt is
+  -- what a later node's top is
   sired : (later : List Node) (l : LaterNodes (has_node b) kept later) (r : Attachment) → OnLater kept (has_node later) r → (a : Node) → a ∈ later → OnLater kept (has_node later) a.attachment
-      → topAt (grown_over before b later) (attached_over before b r) a.name
-      ≡ cond (same_attachment a.attachment r) (Some a.name) (by_owner (topAt (grown_over before b later) (attached_over before b r)) (attached_over before b a.attachment))
+      → top_at (grown_over before b later) (attached_over before b r) a.name
+      ≡ cond (same_attachment a.attachment r) (Some a.name) (by_owner (top_at (grown_over before b later) (attached_over before b r)) (attached_over before b a.attachment))
   sired later l r h a i k =
       all_member _ (grown_over before b later) (node_over before b a) (tops (grown_over before b later) (attached_over before b r) (grown_over_lem before o b gb kept sub later l)) (in_over later a i)
-      ∙ ap (λ z. cond z (Some a.name) (by_owner (topAt (grown_over before b later) (attached_over before b r)) (attached_over before b a.attachment))) (place_alike later l a.attachment r k h)
+      ∙ ap (λ z. cond z (Some a.name) (by_owner (top_at (grown_over before b later) (attached_over before b r)) (attached_over before b a.attachment))) (place_alike later l a.attachment r k h)
 
 pub seated_more : (kept n m : Name → Bool) → ((y : Name) → n y ≡ true → m y ≡ true) → (r : Attachment) → OnLater kept n r → OnLater kept m r
 seated_more kept n m f root h = tt
 seated_more kept n m f (left_of z) h = f z h
-seated_more kept n m f (rightOf z) (inl h) = inl h
-seated_more kept n m f (rightOf z) (inr h) = inr (f z h)
+seated_more kept n m f (right_of z) (inl h) = inl h
+seated_more kept n m f (right_of z) (inr h) = inr (f z h)
 
 named_sub : (a b : List Node) → ((n : Node) → n ∈ a → n ∈ b) → (y : Name) → has_node a y ≡ true → has_node b y ≡ true
 named_sub a b f y h = let r = node_of_lem a y h in subst (λ z. has_node b z ≡ true) r.2 (all_member _ b r.0 (has_own b) (f r.0 r.1))
@@ -174,21 +174,21 @@ module _ (before : Name → Name → Bool) (o : Ordered before) (big small : Tre
 
   module _ (later : List Node) (l : LaterNodes (has_node big) K later) (r : Attachment) (hr : OnLater K (has_node later) r) where
     abbrev s_t : Name → Option Name
-    s_t = topAt (T later) (attached_over before big r)
+    s_t = top_at (T later) (attached_over before big r)
 
     abbrev st : Name → Option Name
-    st = topAt (t later) (attached_over before small r)
+    st = top_at (t later) (attached_over before small r)
 
     at_alike : (p : Attachment) (n : Name → Bool) → ((y : Name) → n y ≡ true → has_node later y ≡ true) → OnLater K n p → ((z : Name) → n z ≡ true → s_t z ≡ st z) → by_owner s_t (attached_over before big p) ≡ by_owner st (attached_over before small p)
     at_alike root n f h ih =
         root_none before o big gb K w later l r hr (home_in before big root) (home_attached before o big gb root tt)
         ∙ sym (root_none before o small gs K id' later (laid_small later l) r hr (home_in before small root) (home_attached before o small gs root tt))
     at_alike (left_of z) n f h ih = ih z h
-    at_alike (rightOf z) n f (inl h) ih =
+    at_alike (right_of z) n f (inl h) ih =
         rw (w z h, h)
-        (root_none before o big gb K w later l r hr (home_in before big (rightOf z)) (home_attached before o big gb (rightOf z) (w z h))
-        ∙ sym (root_none before o small gs K id' later (laid_small later l) r hr (home_in before small (rightOf z)) (home_attached before o small gs (rightOf z) h)))
-    at_alike (rightOf z) n f (inr h) ih =
+        (root_none before o big gb K w later l r hr (home_in before big (right_of z)) (home_attached before o big gb (right_of z) (w z h))
+        ∙ sym (root_none before o small gs K id' later (laid_small later l) r hr (home_in before small (right_of z)) (home_attached before o small gs (right_of z) h)))
+    at_alike (right_of z) n f (inr h) ih =
         rw (late_new before o big gb K w later l z (f z h), late_new before o small gs K id' later (laid_small later l) z (f z h)) (ih z h)
 
     each_alike : (older : List Node) → LaterNodes (has_node big) K older → ((a : Node) → a ∈ older → a ∈ later) → (y : Name) → has_node older y ≡ true → s_t y ≡ st y
@@ -223,8 +223,8 @@ module _ (before : Name → Name → Bool) (o : Ordered before) (big small : Tre
       → beside_owner before (T later) r y ≡ beside_owner before (t later) r y
   beside_alike later l a root h y n = refl
   beside_alike later l a (left_of z) h y n = a y z n (named_late before o small gs K id' later z h)
-  beside_alike later l a (rightOf z) (inl h) y n = ap not (a z y (named_base before o small gs K id' later z h) n)
-  beside_alike later l a (rightOf z) (inr h) y n = ap not (a z y (named_late before o small gs K id' later z h) n)
+  beside_alike later l a (right_of z) (inl h) y n = ap not (a z y (named_base before o small gs K id' later z h) n)
+  beside_alike later l a (right_of z) (inr h) y n = ap not (a z y (named_late before o small gs K id' later z h) n)
 
   verdict_alike : (later : List Node) (l : LaterNodes (has_node big) K later) → Alike before o (T later) (t later) (g_t later l) (gt later l) → (r : Attachment) → OnLater K (has_node later) r → (x y : Name) → has_node (t later) y ≡ true
       → (m : Option Name) → comes_before before (T later) r x y m ≡ comes_before before (t later) r x y m
@@ -245,7 +245,7 @@ module _ (before : Name → Name → Bool) (o : Ordered before) (big small : Tre
     key y h =
         judged before o big gb K w a later l y (within later y h)
         ∙ ap (comes_before before (T later) a.attachment a.name y) (sires_alike later l.3 a.attachment l.2 y h)
-        ∙ verdict_alike later l.3 ih a.attachment l.2 a.name y h (topAt (t later) (attached_over before small a.attachment) y)
+        ∙ verdict_alike later l.3 ih a.attachment l.2 a.name y h (top_at (t later) (attached_over before small a.attachment) y)
         ∙ sym (judged before o small gs K id' a later ls y h)
 
     old : (y z : Name) → has_node (t later) y ≡ true → has_node (t later) z ≡ true → path_before before (path T' y) (path T' z) ≡ path_before before (path t' y) (path t' z)

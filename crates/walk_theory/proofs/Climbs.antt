@@ -5,7 +5,7 @@ use Rattle.std.proofs.lemmas.Bool.{both_ways}
 use Rattle.events.specs.declared.name.Name.{Name}
 use Rattle.fugue.specs.Names.{same, Ordered, ◌∈◌}
 use Rattle.fugue.specs.Placements.{after}
-use Rattle.fugue.specs.Tree.{Attachment, left_of, rightOf, Node, Tree, has_node, InSequence, none, next}
+use Rattle.fugue.specs.Tree.{Attachment, left_of, right_of, Node, Tree, has_node, InSequence, none, next}
 use Rattle.fugue.proofs.Beside.{after_append}
 use Rattle.fugue.proofs.Grown.{has_node_append}
 use Rattle.fugue.proofs.Lists.{all_members}
@@ -51,9 +51,9 @@ module _ (before : Name → Name → Bool) (o : Ordered before) (t : Tree) where
         (by_part (has_node l x) (same n.name x) (has_node r x) refl refl refl
         (sym (has_node_append (l ++ n ∷ r) s x ∙ ap (λ b. b || has_node s x) (has_node_append l (n ∷ r) x)) ∙ h))
 
-  pub nexts : {ks s : List Node} → InSequence before t ks s → (x : Name) → has_node s x ≡ true → (k : Node) → k ∈ t → k.attachment ≡ rightOf x → Begins (rightOf x) (after x s)
+  pub nexts : {ks s : List Node} → InSequence before t ks s → (x : Name) → has_node s x ≡ true → (k : Node) → k ∈ t → k.attachment ≡ right_of x → Begins (right_of x) (after x s)
   nexts none x h k i e = absurd (both_ways false refl h)
   nexts (next {n = n} {rs = rs} {s = s} {l = l} {r = r} kl vl kr vr vs) x h k i e =
-      next_part (Begins (rightOf x)) (begins_append (rightOf x)) x n l r s (λ q. nexts vl x q k i e)
-      (λ q. let f = ap rightOf (same_name n.name x q) in begins vr (rightOf x) (all_members _ rs (λ j z. let a = (kr.are j).0 z in (a.0, a.1 ∙ f))) k ((kr.are k).1 (i, e ∙ sym f)))
+      next_part (Begins (right_of x)) (begins_append (right_of x)) x n l r s (λ q. nexts vl x q k i e)
+      (λ q. let f = ap right_of (same_name n.name x q) in begins vr (right_of x) (all_members _ rs (λ j z. let a = (kr.are j).0 z in (a.0, a.1 ∙ f))) k ((kr.are k).1 (i, e ∙ sym f)))
       (λ q. nexts vr x q k i e) (λ q. nexts vs x q k i e) h

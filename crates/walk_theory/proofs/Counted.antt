@@ -8,7 +8,7 @@ use Rattle.fugue.specs.declared.edit.Edit.TheVariants.{Insert, Delete, Nothing}
 use Rattle.fugue.specs.Names.{same, has, Ordered}
 use Rattle.fugue.specs.Logs.{NewestFirst, Distinct}
 use Rattle.fugue.specs.Tree.{Node, Tree, sequence, only, node_names}
-use Rattle.fugue.specs.Placements.{inserted, deleted, Placed, node_of, target_of, nodes, struck, visible, placements, placementIn, tree}
+use Rattle.fugue.specs.Placements.{inserted, deleted, Placed, node_of, target_of, nodes, struck, visible, placements, placement_in, tree}
 use Rattle.fugue.specs.Edits.{in_front_of, edit_of, edit}
 use Rattle.fugue.proofs.Names.{same_name, same_own}
 use Rattle.fugue.proofs.Lists.{all_members, kept_like}
@@ -69,11 +69,11 @@ module _ (before : Name → Name → Bool) (o : Ordered before) (log closed : Ne
       ∙ shows_the_text before o log closed u small later listed h
 
   module _ (e : NamedEvent) (u : Distinct (e ∷ log)) where
-    edit_is : edit before log e ≡ edit_of before (placements before log) (placementIn before log e)
+    edit_is : edit before log e ≡ edit_of before (placements before log) (placement_in before log e)
     unfolding edit
     edit_is = refl
 
-    module _ (n : Node) (placed : placementIn before log e ≡ inserted n) where
+    module _ (n : Node) (placed : placement_in before log e ≡ inserted n) where
       keeps_as_before : (s : List Node) → only (unstruck before (e ∷ log)) s ≡ only keep s
       keeps_as_before s =
           kept_like _ _ s (all_members _ s (λ m _. ap not (struck_step before e log m.name ∙ ap (λ p. has (target_of p) m.name || struck (placements before log) m.name) placed)))
@@ -99,7 +99,7 @@ module _ (before : Name → Name → Bool) (o : Ordered before) (log closed : Ne
           ∙ ap (λ l. length (only keep l)) (ap (λ x. in_front_of x (a ++ m ∷ b)) (q ∙ sym r) ∙ front_put a b m f (same_own m.name)))
 
     -- a delete counts what is in the text in front of its target
-    pub delete_edit : (x : Name) → placementIn before log e ≡ deleted x → (later listed : List Node) → Holds before log closed small later listed
+    pub delete_edit : (x : Name) → placement_in before log e ≡ deleted x → (later listed : List Node) → Holds before log closed small later listed
         → edit before log e ≡ cond (struck (placements before log) x) Nothing (Delete (length (only keep (in_front_of x listed))))
     delete_edit x placed later listed h =
         edit_is ∙ ap (edit_of before (placements before log)) placed

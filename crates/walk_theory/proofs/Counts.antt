@@ -7,15 +7,15 @@ use Rattle.events.specs.declared.name.Name.{Name}
 use Rattle.events.specs.declared.character.Character.{Character}
 use Rattle.fugue.specs.Names.{Ordered, ◌∈◌}
 use Rattle.fugue.specs.Placements.{attached_by}
-use Rattle.fugue.specs.Tree.{Attachment, root, left_of, rightOf, same_attachment, Node, Tree, children, sequence, only, ClosedPart, has_node, Grown}
+use Rattle.fugue.specs.Tree.{Attachment, root, left_of, right_of, same_attachment, Node, Tree, children, sequence, only, ClosedPart, has_node, Grown}
 use Rattle.fugue.proofs.Grown.{age_below, grown_only}
 use Rattle.fugue.proofs.Lists.{kept_member, member_kept}
 use Rattle.fugue.proofs.Names.{attachment_is, attachment_refl}
 use Rattle.fugue.proofs.Paths.{members}
 use Rattle.fugue.proofs.Sequences.{children_are}
 use Rattle.walk_theory.specs.Origins.{Origin, behind, front}
-use Rattle.walk_theory.specs.Tops.{topAt}
-use Rattle.walk_theory.specs.Search.{until, climb, topOutside, top_precedes, top_follows, home, up, down, among}
+use Rattle.walk_theory.specs.Tops.{top_at}
+use Rattle.walk_theory.specs.Search.{until, climb, top_outside, top_precedes, top_follows, home, up, down, among}
 use Rattle.walk_theory.specs.Counts.{hung, all, home_by_count, where_free, Quickly}
 use Rattle.walk_theory.proofs.Tops.{found}
 use Rattle.walk_theory.proofs.Cuts.{leading_none, all_reverse}
@@ -68,15 +68,15 @@ module _ (before : Name → Name → Bool) (o : Ordered before) (t : Tree) (g : 
   homes : home d s p f ≡ home_by_count (hung v p s) p f
   homes = (finds before o t g v cl p q x fx d deep any_character).at_home ∙ ap (λ z. attached_by (children before (only v t) p) z p) (follow_is before o t g v cl p q x fx d deep) ∙ none_hung (children before (only v t) p) refl (hung v p s) refl f
 
-  -- where nothing hangs at a place, nothing has a topAt there
-  none_outside : (h : Attachment) → hung all h s ≡ 0 → (y : Name) → has_node t y ≡ true → topOutside d s v h y ≡ None
+  -- where nothing hangs at a place, nothing has a top there
+  none_outside : (h : Attachment) → hung all h s ≡ 0 → (y : Name) → has_node t y ≡ true → top_outside d s v h y ≡ None
   none_outside h e y n =
-      outside_is before o t g v cl h (λ m i _ w. free_of m i w) y n d (omega (arith, age_below t y n)) ∙ go (topAt t h y) refl
+      outside_is before o t g v cl h (λ m i _ w. free_of m i w) y n d (omega (arith, age_below t y n)) ∙ go (top_at t h y) refl
     where
       free_of : (m : Node) → m ∈ t → m.attachment ≡ h → ⊥
       free_of m i w = count_none (λ j. all j.name && same_attachment j.attachment h) s e m ((members before o t g m).1 i) (rw w (attachment_refl h))
 
-      go : (m : Option Name) → topAt t h y ≡ m → topAt t h y ≡ None
+      go : (m : Option Name) → top_at t h y ≡ m → top_at t h y ≡ None
       go None k = k
       go (Some z) k = let r = found t g h y n z k in absurd (free_of r.0 r.1 r.3)
 
@@ -88,7 +88,7 @@ module _ (before : Name → Name → Bool) (o : Ordered before) (t : Tree) (g : 
 
   down_none : (z : Name) → hung all (left_of z) s ≡ 0 → down before d s v p x z ≡ length (until v (behind p s))
   down_none z e =
-      let a = leading_none (λ n. top_follows before x (topOutside d s v (left_of z) n.name)) (reverse (until v (behind p s)))
+      let a = leading_none (λ n. top_follows before x (top_outside d s v (left_of z) n.name)) (reverse (until v (behind p s)))
       (all_reverse _ (until v (behind p s)) (All-weaker _ _ (λ n k. ap (top_follows before x) (none_outside (left_of z) e n.name k)) _ run_named)) in
       omega (arith, a)
 
@@ -103,7 +103,7 @@ module _ (before : Name → Name → Bool) (o : Ordered before) (t : Tree) (g : 
       not_left : (p : Attachment) → Origin (λ y. has_node t y && v y) p → p ≡ left_of n.name → ⊥
       not_left root h e = let z : ◌≡◌ {A = ℕ} 0 1 = cc in omega arith
       not_left (left_of y) h e = h
-      not_left (rightOf y) h e = let z : ◌≡◌ {A = ℕ} 0 1 = cc in omega arith
+      not_left (right_of y) h e = let z : ◌≡◌ {A = ℕ} 0 1 = cc in omega arith
   alone_by (suc k) (n ∷ ns) e h = elim (cases_Bool (same_attachment (climb d s n.attachment) p)) [
     | inl c ↦ rw c (down_none n.name h)
     | inr c ↦ absurd (not_left p q (rw c at e))
@@ -112,7 +112,7 @@ module _ (before : Name → Name → Bool) (o : Ordered before) (t : Tree) (g : 
       not_left : (p : Attachment) → Origin (λ y. has_node t y && v y) p → p ≡ left_of n.name → ⊥
       not_left root h e = let z : ◌≡◌ {A = ℕ} 0 1 = cc in omega arith
       not_left (left_of y) h e = h
-      not_left (rightOf y) h e = let z : ◌≡◌ {A = ℕ} 0 1 = cc in omega arith
+      not_left (right_of y) h e = let z : ◌≡◌ {A = ℕ} 0 1 = cc in omega arith
 
   pub quick : Quickly before d t v p x
   quick = record {

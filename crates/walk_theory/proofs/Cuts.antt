@@ -1,4 +1,4 @@
--- ListsTheSequence that are cut where a test turns.
+-- Lists that are cut where a test turns.
 use Rattle.std.proofs.Common.{◌≡◌, ◌+◌, ◌-◌, Bool, true, false, not, List, [], ◌∷◌, ◌++◌, reverse, length, take, drop, filter, sym, refl, ap, ◌∙◌, subst, ap₂, inl, inr, arith, length-append}
 use mathlib.Core.List.{reverse-append}
 use lib.ListN.{length-reverse}

@@ -3,7 +3,7 @@ use Rattle.std.proofs.Common.{◌≡◌, Bool, true, false, [], ◌∷◌, ◌++
 use Rattle.events.specs.declared.name.Name.{Name}
 use Rattle.events.specs.declared.character.Character.{Character}
 use Rattle.fugue.specs.Names.{Ordered, ◌∈◌}
-use Rattle.fugue.specs.Tree.{Attachment, root, left_of, rightOf, Node, Tree, sequence, has_node, Grown, Children}
+use Rattle.fugue.specs.Tree.{Attachment, root, left_of, right_of, Node, Tree, sequence, has_node, Grown, Children}
 use Rattle.fugue.proofs.Grown.{node_in, node_of_lem}
 use Rattle.fugue.proofs.Sequences.{sequence_right}
 use Rattle.fugue.proofs.Paths.{members}
@@ -18,11 +18,11 @@ module _ (before : Name → Name → Bool) (o : Ordered before) (t : Tree) (g : 
   pub followed : (q : Attachment) → Origin (has_node t) q → (k : Node) → k ∈ t → k.attachment ≡ q → Starts before o t (behind q (sequence before t))
   followed root h k i e = let s = sequence_right before o t g in starts before o t s.in_sequence k ((s.children.are k).1 (i, e))
   followed (left_of y) h k i e = elim h [ ]
-  followed (rightOf y) h k i e = after_right before o t (sequence_right before o t g).in_sequence y (in_sequence_lem y h) k i e
+  followed (right_of y) h k i e = after_right before o t (sequence_right before o t g).in_sequence y (in_sequence_lem y h) k i e
 
   module _ (x : Name) (c : Character) (f : has_node t x ≡ false) where
     pub at_gap : (q : Attachment) → Origin (has_node t) q → Children before t q []
         → sequence before (new_node x q c ∷ t) ≡ front q (sequence before t) ++ new_node x q c ∷ behind q (sequence before t)
     at_gap root h k = at_root before o t g x c f k
     at_gap (left_of y) h k = elim h [ ]
-    at_gap (rightOf y) h k = at_right before o t g x c f y h k
+    at_gap (right_of y) h k = at_right before o t g x c f y h k

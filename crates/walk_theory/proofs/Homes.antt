@@ -5,14 +5,14 @@ use Rattle.events.specs.declared.name.Name.{Name}
 use Rattle.fugue.proofs.Grown.{inside}
 use Rattle.fugue.specs.Names.{same, Ordered, ◌∈◌}
 use Rattle.fugue.specs.Paths.{end, steps_to, steps, path, path_before}
-use Rattle.fugue.specs.Tree.{Attachment, root, left_of, rightOf, same_attachment, Node, Tree, sequence, only, ClosedPart, has_node, Grown}
+use Rattle.fugue.specs.Tree.{Attachment, root, left_of, right_of, same_attachment, Node, Tree, sequence, only, ClosedPart, has_node, Grown}
 use Rattle.fugue.proofs.Grown.{has_own, grown_only, has_only, node_of_lem}
 use Rattle.fugue.proofs.Lists.{kept_like, all_member, all_members, kept_member, member_kept}
 use Rattle.fugue.proofs.Names.{same_name, same_own, attachment_is, attachment_refl}
 use Rattle.fugue.proofs.Nested.{sequence_part}
 use Rattle.fugue.proofs.Paths.{stepped, members}
 use Rattle.walk_theory.specs.Origins.{Origin}
-use Rattle.walk_theory.specs.Tops.{topAt, beside_owner}
+use Rattle.walk_theory.specs.Tops.{top_at, beside_owner}
 use Rattle.walk_theory.specs.Bases.{home_in, attached_over, node_over, grown_over, OnLater, LaterNodes, node_names, Agrees}
 use Rattle.walk_theory.proofs.Tops.{found, beside as by_place}
 use Rattle.walk_theory.proofs.Search.{origin_like, top_kept, below_right, as_rooted}
@@ -52,7 +52,7 @@ module _ (before : Name → Name → Bool) (o : Ordered before) (t : Tree) (g : 
   part_aside : (p : Attachment) → Origin (has_node (only v t)) p → (c : Name) → has_node (only v t) c ≡ true → beside_owner before (only v t) p c ≡ beside_owner before t p c
   part_aside root h c k = refl
   part_aside (left_of z) h c k = elim h [ ]
-  part_aside (rightOf z) h c k = ap not (sym (part_alike z c h k))
+  part_aside (right_of z) h c k = ap not (sym (part_alike z c h k))
 
   -- the node at whose left a version puts a new node is the first behind the left origin
   pub first : (p : Attachment) → Origin (has_node (only v t)) p → (n : Name) → has_node (only v t) n ≡ true → home_in before (only v t) p ≡ left_of n
@@ -65,7 +65,7 @@ module _ (before : Name → Name → Bool) (o : Ordered before) (t : Tree) (g : 
       ∙ part_aside p h c kc
 
   -- a node is before one that hangs at a place by what hangs there
-  pub by_hang : (m : Node) → m ∈ t → (y : Name) → has_node t y ≡ true → topAt t m.attachment y ≡ None → path_before before (path t y) (path t m.name) ≡ beside_owner before t m.attachment y
+  pub by_hang : (m : Node) → m ∈ t → (y : Name) → has_node t y ≡ true → top_at t m.attachment y ≡ None → path_before before (path t y) (path t m.name) ≡ beside_owner before t m.attachment y
   by_hang m i y h s =
       ap (path_before before (path t y)) (own_path t m.name m.attachment (all_member _ t m (stepped t g) i))
       ∙ by_place before o t g m.attachment (all_member _ t m (inside t g) i).1 m.name y h s
@@ -135,8 +135,8 @@ module _ (before : Name → Name → Bool) (o : Ordered before) (b : Tree) (gb :
   early p sp h c k =
       let m = node_over before b h.0 in
       let e : m.attachment ≡ attached_over before b p = ap (attached_over before b) h.3 in
-      let s0 : topAt X (attached_over before b p) c ≡ None = base_none before o b gb kept sub later l p sp c k in
-      let s = ap (λ q. topAt X q c) e ∙ s0 in
+      let s0 : top_at X (attached_over before b p) c ≡ None = base_none before o b gb kept sub later l p sp c k in
+      let s = ap (λ q. top_at X q c) e ∙ s0 in
       let nc = named_base before o b gb kept sub later c k in
       by_hang before o X g_x v cl m (in_over before o b gb kept sub later h.0 h.1) c nc s
       ∙ ap (λ q. beside_owner before X q c) e
@@ -145,11 +145,11 @@ module _ (before : Name → Name → Bool) (o : Ordered before) (b : Tree) (gb :
   held_after : (p : Attachment) (sp : Spot before o b gb kept sub later p) (h : Held p) → Origin (has_node X) p → beside_owner before X p h.0.name ≡ false
   held_after root sp h q = refl
   held_after (left_of z) sp h q = elim q [ ]
-  held_after (rightOf z) (gap k u e) h q = ap not (early (rightOf z) (gap k u e) h z u ∙ ap not (never before o X g_x z))
-  held_after (rightOf z) (out k e) h q =
+  held_after (right_of z) (gap k u e) h q = ap not (early (right_of z) (gap k u e) h z u ∙ ap not (never before o X g_x z))
+  held_after (right_of z) (out k e) h q =
       let m = node_over before b h.0 in
-      let f : m.attachment ≡ rightOf z = ap (attached_over before b) h.3 ∙ e in
-      ap not (ap (path_before before (path X z)) (own_path X h.0.name (rightOf z) (all_member _ X m (stepped X g_x) (in_over before o b gb kept sub later h.0 h.1) ∙ ap (λ r. steps_to (steps X) r h.0.name) f)) ∙ below_right before o X g_x h.0.name z)
+      let f : m.attachment ≡ right_of z = ap (attached_over before b) h.3 ∙ e in
+      ap not (ap (path_before before (path X z)) (own_path X h.0.name (right_of z) (all_member _ X m (stepped X g_x) (in_over before o b gb kept sub later h.0 h.1) ∙ ap (λ r. steps_to (steps X) r h.0.name) f)) ∙ below_right before o X g_x h.0.name z)
 
   no_yes : (x : Bool) → x ≡ false → x ≡ true → ⊥
   no_yes x h k = both_ways x h k

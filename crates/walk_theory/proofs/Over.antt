@@ -8,7 +8,7 @@ use Rattle.fugue.proofs.Grown.{inside}
 use Rattle.fugue.specs.Names.{same, Ordered, ◌∈◌, Rising}
 use Rattle.fugue.specs.Paths.{end, steps_to, steps, path, path_before}
 use Rattle.fugue.specs.Placements.{after, attached_by}
-use Rattle.fugue.specs.Tree.{Attachment, root, left_of, rightOf, same_attachment, Node, Tree, children, sequence, AttachedTo, ClosedPart, has_node, Grown, Children}
+use Rattle.fugue.specs.Tree.{Attachment, root, left_of, right_of, same_attachment, Node, Tree, children, sequence, AttachedTo, ClosedPart, has_node, Grown, Children}
 use Rattle.fugue.proofs.Beside.{Starts}
 use Rattle.fugue.proofs.Grown.{has_own, attached_like, node_of_lem}
 use Rattle.fugue.proofs.Lists.{all_member, in_either, in_right}
@@ -16,7 +16,7 @@ use Rattle.fugue.proofs.Names.{same_name, same_own, attachment_refl}
 use Rattle.fugue.proofs.Paths.{steps_older, steps_own, path_irreflexive, path_transitive, path_total, members, one_path}
 use Rattle.fugue.proofs.Sequences.{children_are}
 use Rattle.walk_theory.specs.Origins.{Origin, behind, up_to, front}
-use Rattle.walk_theory.specs.Tops.{by_owner, topAt, beside_owner, comes_before}
+use Rattle.walk_theory.specs.Tops.{by_owner, top_at, beside_owner, comes_before}
 use Rattle.walk_theory.specs.Bases.{home_in, attached_over, node_over, grown_over, OnLater, LaterNodes}
 use Rattle.walk_theory.proofs.Gaps.{followed}
 use Rattle.walk_theory.proofs.Tops.{top_older, top_own, none_some, sides}
@@ -104,7 +104,7 @@ module _ (before : Name → Name → Bool) (o : Ordered before) (b : Tree) (gb :
   aside_front : (q : Attachment) → Origin (has_node b) q → (c : Node) → c ∈ front q s → beside_owner before b q c.name ≡ true
   aside_front root h c i = elim i [ ]
   aside_front (left_of y) h c i = elim h [ ]
-  aside_front (rightOf y) h c i = ap not (upto_not y h c i)
+  aside_front (right_of y) h c i = ap not (upto_not y h c i)
 
   -- a node of the base is before that place if it is up to the left origin
   pub home_beside : (q : Attachment) → Origin (has_node b) q → (c : Name) → has_node b c ≡ true → beside_owner before b (home_in before b q) c ≡ beside_owner before b q c
@@ -133,12 +133,12 @@ module _ (before : Name → Name → Bool) (o : Ordered before) (b : Tree) (gb :
   pub origin_by : (p q : Attachment) → Origin (has_node b) p → Origin (has_node b) q → ((c : Name) → has_node b c ≡ true → beside_owner before b p c ≡ beside_owner before b q c) → p ≡ q
   origin_by root root h k f = refl
   origin_by root (left_of z) h k f = elim k [ ]
-  origin_by root (rightOf z) h k f = absurd (both_ways false refl (f z k ∙ ap not (never before o b gb z)))
+  origin_by root (right_of z) h k f = absurd (both_ways false refl (f z k ∙ ap not (never before o b gb z)))
   origin_by (left_of y) q h k f = elim h [ ]
-  origin_by (rightOf y) root h k f = absurd (both_ways false refl (sym (f y h) ∙ ap not (never before o b gb y)))
-  origin_by (rightOf y) (left_of z) h k f = elim k [ ]
-  origin_by (rightOf y) (rightOf z) h k f = elim (cases_Bool (same y z)) [
-    | inl e ↦ ap rightOf (same_name y z e)
+  origin_by (right_of y) root h k f = absurd (both_ways false refl (sym (f y h) ∙ ap not (never before o b gb y)))
+  origin_by (right_of y) (left_of z) h k f = elim k [ ]
+  origin_by (right_of y) (right_of z) h k f = elim (cases_Bool (same y z)) [
+    | inl e ↦ ap right_of (same_name y z e)
     | inr e ↦
         let d : y ≡ z → ⊥ = λ w. both_ways _ e (rw w (same_own z)) in
         let a = never before o b gb y in
@@ -159,16 +159,16 @@ module _ (before : Name → Name → Bool) (o : Ordered before) (b : Tree) (gb :
   abbrev pub Beside : Attachment → Name → Attachment → Type 0
   Beside root n r = beside_owner before b r n ≡ true
   Beside (left_of y) n r = ⊥
-  Beside (rightOf y) n r = beside_owner before b r n ≡ beside_owner before b r y
+  Beside (right_of y) n r = beside_owner before b r n ≡ beside_owner before b r y
 
   pub beside_gap : (q r : Attachment) (n : Name) → Origin (has_node b) q → Origin (has_node b) r → (q ≡ r → ⊥) → has_node b n ≡ true → ((c : Name) → has_node b c ≡ true → L c n ≡ beside_owner before b q c) → Beside q n r
   beside_gap root root n h k d m f = absurd (d refl)
   beside_gap root (left_of z) n h k d m f = elim k [ ]
-  beside_gap root (rightOf z) n h k d m f = ap not (f z k)
+  beside_gap root (right_of z) n h k d m f = ap not (f z k)
   beside_gap (left_of y) r n h k d m f = elim h [ ]
-  beside_gap (rightOf y) root n h k d m f = refl
-  beside_gap (rightOf y) (left_of z) n h k d m f = elim k [ ]
-  beside_gap (rightOf y) (rightOf z) n h k d m f = ap not (f z k ∙ sym (either before o b gb z y k h (λ e. d (ap rightOf (sym e)))))
+  beside_gap (right_of y) root n h k d m f = refl
+  beside_gap (right_of y) (left_of z) n h k d m f = elim k [ ]
+  beside_gap (right_of y) (right_of z) n h k d m f = ap not (f z k ∙ sym (either before o b gb z y k h (λ e. d (ap right_of (sym e)))))
 
   module _ (kept : Name → Bool) (sub : (y : Name) → kept y ≡ true → has_node b y ≡ true) where
     abbrev pub G : List Node → Tree
@@ -202,7 +202,7 @@ module _ (before : Name → Name → Bool) (o : Ordered before) (b : Tree) (gb :
     abbrev pub Outside : List Node → Attachment → Type 0
     Outside later root = ⊥
     Outside later (left_of z) = has_node later z ≡ true
-    Outside later (rightOf z) = has_node later z ≡ true
+    Outside later (right_of z) = has_node later z ≡ true
 
     -- a place is in a gap, or on a later node
     pub data Spot (later : List Node) (r : Attachment) : Type 0 where
@@ -212,13 +212,13 @@ module _ (before : Name → Name → Bool) (o : Ordered before) (b : Tree) (gb :
     pub spot_of : (later : List Node) → LaterNodes (has_node b) kept later → (r : Attachment) → OnLater kept (has_node later) r → Spot later r
     spot_of later l root h = gap tt tt refl
     spot_of later l (left_of z) h = out h refl
-    spot_of later l (rightOf z) (inl k) = gap k (sub z k) (rw (sub z k))
-    spot_of later l (rightOf z) (inr k) = out k (rw (late_new later l z k))
+    spot_of later l (right_of z) (inl k) = gap k (sub z k) (rw (sub z k))
+    spot_of later l (right_of z) (inr k) = out k (rw (late_new later l z k))
 
     out_rooted : (later : List Node) (r : Attachment) → Outside later r → AttachedTo (has_node (G later)) r
     out_rooted later root h = elim h [ ]
     out_rooted later (left_of z) h = named_late later z h
-    out_rooted later (rightOf z) h = named_late later z h
+    out_rooted later (right_of z) h = named_late later z h
 
     pub moved_rooted : (later : List Node) → LaterNodes (has_node b) kept later → (r : Attachment) → OnLater kept (has_node later) r → AttachedTo (has_node (G later)) (attached_over before b r)
     moved_rooted later l r h = elim (spot_of later l r h) [
@@ -242,7 +242,7 @@ module _ (before : Name → Name → Bool) (o : Ordered before) (b : Tree) (gb :
     pub beside_base : (later : List Node) → LaterNodes (has_node b) kept later → (h : Attachment) → AttachedTo (has_node b) h → (c : Name) → has_node b c ≡ true → beside_owner before (G later) h c ≡ beside_owner before b h c
     beside_base later l root r c k = refl
     beside_base later l (left_of z) r c k = rw (path_base later l z r, path_base later l c k)
-    beside_base later l (rightOf z) r c k = rw (path_base later l z r, path_base later l c k)
+    beside_base later l (right_of z) r c k = rw (path_base later l z r, path_base later l c k)
 
     -- the base is a closed part
     pub base_closed : (later : List Node) → LaterNodes (has_node b) kept later → ClosedPart (has_node b) (G later)
@@ -257,13 +257,13 @@ module _ (before : Name → Name → Bool) (o : Ordered before) (b : Tree) (gb :
     pub out_not : (later : List Node) → LaterNodes (has_node b) kept later → (r : Attachment) → Outside later r → AttachedTo (has_node b) r → ⊥
     out_not later l root k h = k
     out_not later l (left_of z) k h = both_ways _ (late_new later l z k) h
-    out_not later l (rightOf z) k h = both_ways _ (late_new later l z k) h
+    out_not later l (right_of z) k h = both_ways _ (late_new later l z k) h
 
     pub base_bare : (later : List Node) → LaterNodes (has_node b) kept later → (r : Attachment) → Spot later r → (m : Node) → m ∈ G later → has_node b m.name ≡ true → m.attachment ≡ attached_over before b r → ⊥
     base_bare later l r (gap k q e) m i h f = home_bare r q m (in_base later l m i h) (f ∙ e)
     base_bare later l r (out k e) m i h f = out_not later l r k (subst (AttachedTo (has_node b)) (f ∙ e) (all_member _ (G later) m (base_closed later l) i h))
 
-    pub base_none : (later : List Node) (l : LaterNodes (has_node b) kept later) (r : Attachment) → Spot later r → (c : Name) → has_node b c ≡ true → topAt (G later) (attached_over before b r) c ≡ None
+    pub base_none : (later : List Node) (l : LaterNodes (has_node b) kept later) (r : Attachment) → Spot later r → (c : Name) → has_node b c ≡ true → top_at (G later) (attached_over before b r) c ≡ None
     base_none later l r sp c h =
         no_top before o (G later) (grown_over_lem later l) (has_node b) (base_closed later l) (attached_over before b r) (base_bare later l r sp) c (named_base later c h) h
 
@@ -290,7 +290,7 @@ module _ (before : Name → Name → Bool) (o : Ordered before) (b : Tree) (gb :
       path_new = ap (λ z. z ++ end ∷ []) (steps_own (node_over before b a) (G later))
 
       pub new_after : (y : Name) → has_node (G later) y ≡ true
-          → path_before before (path (G (a ∷ later)) y) (path (G (a ∷ later)) a.name) ≡ comes_before before (G later) (attached_over before b a.attachment) a.name y (topAt (G later) (attached_over before b a.attachment) y)
+          → path_before before (path (G (a ∷ later)) y) (path (G (a ∷ later)) a.name) ≡ comes_before before (G later) (attached_over before b a.attachment) a.name y (top_at (G later) (attached_over before b a.attachment) y)
       new_after y h =
           ap₂ (path_before before) (path_older y h) path_new
           ∙ sides before o (G later) g1 (attached_over before b a.attachment) (moved_rooted later l.3 a.attachment l.2) a.name y new_name h
@@ -306,7 +306,7 @@ module _ (before : Name → Name → Bool) (o : Ordered before) (b : Tree) (gb :
       pub is_kept : Origin kept hole
       pub low : (c : Name) → has_node b c ≡ true → path_before before (path (G later) c) (path (G later) y) ≡ beside_owner before b hole c
       pub head : Name
-      pub headed : topAt (G later) (home_in before b hole) y ≡ Some head
+      pub headed : top_at (G later) (home_in before b hole) y ≡ Some head
 
     in_older : (a : Node) (later : List Node) → LaterNodes (has_node b) kept (a ∷ later) → (y : Name) → has_node (G later) y ≡ true → In later y → In (a ∷ later) y
     in_older a later l y h i = record {
@@ -319,11 +319,11 @@ module _ (before : Name → Name → Bool) (o : Ordered before) (b : Tree) (gb :
 
     on_later : (a : Node) (later : List Node) (l : LaterNodes (has_node b) kept (a ∷ later)) (z : Name) → has_node later z ≡ true → In later z
         → ((c : Name) → has_node b c ≡ true → beside_owner before (G later) (attached_over before b a.attachment) c ≡ path_before before (path (G later) c) (path (G later) z))
-        → ((h : Attachment) → by_owner (topAt (G later) h) (attached_over before b a.attachment) ≡ topAt (G later) h z) → In (a ∷ later) a.name
+        → ((h : Attachment) → by_owner (top_at (G later) h) (attached_over before b a.attachment) ≡ top_at (G later) h z) → In (a ∷ later) a.name
     on_later a later l z n i f e =
         let h = home_in before b i.hole in
         let own = top_own (node_over before b a) (G later) h in
-        let r : (w : Name) × (topAt (G (a ∷ later)) h a.name ≡ Some w) = elim (cases_Bool (same_attachment (attached_over before b a.attachment) h)) [
+        let r : (w : Name) × (top_at (G (a ∷ later)) h a.name ≡ Some w) = elim (cases_Bool (same_attachment (attached_over before b a.attachment) h)) [
           | inl k ↦ (a.name, own ∙ rw k)
           | inr k ↦ (i.head, own ∙ rw k (e h ∙ i.headed))
         ] in
@@ -353,10 +353,10 @@ module _ (before : Name → Name → Bool) (o : Ordered before) (b : Tree) (gb :
         }
     in_new a later l root e (out k f) ih = elim k [ ]
     in_new a later l (left_of z) e (out k f) ih =
-        on_later a later l z k (ih z k) (λ c m. ap (λ h. beside_owner before (G later) (attached_over before b h) c) e) (λ h. ap (λ p. by_owner (topAt (G later) h) (attached_over before b p)) e)
-    in_new a later l (rightOf z) e (out k f) ih =
+        on_later a later l z k (ih z k) (λ c m. ap (λ h. beside_owner before (G later) (attached_over before b h) c) e) (λ h. ap (λ p. by_owner (top_at (G later) h) (attached_over before b p)) e)
+    in_new a later l (right_of z) e (out k f) ih =
         on_later a later l z k (ih z k) (λ c m. ap (λ h. beside_owner before (G later) (attached_over before b h) c) e ∙ ap (λ h. beside_owner before (G later) h c) f ∙ aside_late later l.3 z c k m)
-        (λ h. ap (λ p. by_owner (topAt (G later) h) (attached_over before b p)) e ∙ ap (by_owner (topAt (G later) h)) f)
+        (λ h. ap (λ p. by_owner (top_at (G later) h) (attached_over before b p)) e ∙ ap (by_owner (top_at (G later) h)) f)
 
     pub in_gap : (later : List Node) → LaterNodes (has_node b) kept later → (y : Name) → has_node later y ≡ true → In later y
     in_gap [] l y h = absurd (both_ways false refl h)
@@ -389,22 +389,22 @@ module _ (before : Name → Name → Bool) (o : Ordered before) (b : Tree) (gb :
         go : (q : Attachment) → Origin kept q → (m : Name) → has_node b m ≡ true → Beside q m i.hole → not (path_before before (path (G later) m) (path (G later) y)) ≡ beside_owner before (G later) q y
         go root k m h v = ap not (i.low m h ∙ v)
         go (left_of z) k m h v = elim k [ ]
-        go (rightOf z) k m h v = ap not (i.low m h ∙ v ∙ sym (i.low z (sub z k)))
+        go (right_of z) k m h v = ap not (i.low m h ∙ v ∙ sym (i.low z (sub z k)))
 
     -- where a node lies beside a new place, in the words of the gap
-    pub beside : (later : List Node) (l : LaterNodes (has_node b) kept later) (r : Attachment) → Spot later r → (y : Name) → has_node (G later) y ≡ true → topAt (G later) (attached_over before b r) y ≡ None
+    pub beside : (later : List Node) (l : LaterNodes (has_node b) kept later) (r : Attachment) → Spot later r → (y : Name) → has_node (G later) y ≡ true → top_at (G later) (attached_over before b r) y ≡ None
         → beside_owner before (G later) (attached_over before b r) y ≡ beside_owner before (G later) r y
     beside later l r (out k e) y n s = ap (λ p. beside_owner before (G later) p y) e
     beside later l r (gap k q e) y n s = ap (λ p. beside_owner before (G later) p y) e ∙ elim (named_cases later y n) [
       | inl h ↦ let i = in_gap later l y h in
-          other_gap later l r k y h i (λ f. none_some i.head (sym (ap (λ p. topAt (G later) p y) (sym e) ∙ s) ∙ ap (λ p. topAt (G later) (home_in before b p) y) f ∙ i.headed))
+          other_gap later l r k y h i (λ f. none_some i.head (sym (ap (λ p. top_at (G later) p y) (sym e) ∙ s) ∙ ap (λ p. top_at (G later) (home_in before b p) y) f ∙ i.headed))
       | inr h ↦ beside_base later l (home_in before b r) (home_attached r q) y h ∙ home_beside r q y h ∙ sym (beside_base later l r (as_rooted (has_node b) r q) y h)
     ]
 
     pub judged : (a : Node) (later : List Node) (l : LaterNodes (has_node b) kept (a ∷ later)) (y : Name) → has_node (G later) y ≡ true
-        → path_before before (path (G (a ∷ later)) y) (path (G (a ∷ later)) a.name) ≡ comes_before before (G later) a.attachment a.name y (topAt (G later) (attached_over before b a.attachment) y)
-    judged a later l y n = new_after a later l y n ∙ go (topAt (G later) (attached_over before b a.attachment) y) refl
+        → path_before before (path (G (a ∷ later)) y) (path (G (a ∷ later)) a.name) ≡ comes_before before (G later) a.attachment a.name y (top_at (G later) (attached_over before b a.attachment) y)
+    judged a later l y n = new_after a later l y n ∙ go (top_at (G later) (attached_over before b a.attachment) y) refl
       where
-        go : (m : Option Name) → topAt (G later) (attached_over before b a.attachment) y ≡ m → comes_before before (G later) (attached_over before b a.attachment) a.name y m ≡ comes_before before (G later) a.attachment a.name y m
+        go : (m : Option Name) → top_at (G later) (attached_over before b a.attachment) y ≡ m → comes_before before (G later) (attached_over before b a.attachment) a.name y m ≡ comes_before before (G later) a.attachment a.name y m
         go None e = beside later l.3 a.attachment (spot_of later l.3 a.attachment l.2) y n e
         go (Some w) e = refl

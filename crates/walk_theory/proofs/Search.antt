@@ -9,7 +9,7 @@ use Rattle.fugue.proofs.Grown.{inside}
 use Rattle.fugue.specs.Names.{same, Ordered, ◌∈◌, Rising}
 use Rattle.fugue.specs.Paths.{Step, end, right, left, steps_to, steps, path, path_before}
 use Rattle.fugue.specs.Placements.{after, attached_by}
-use Rattle.fugue.specs.Tree.{Attachment, root, left_of, rightOf, same_attachment, Node, Tree, children, sequence, only, AttachedTo, ClosedPart, has_node, Grown, Children}
+use Rattle.fugue.specs.Tree.{Attachment, root, left_of, right_of, same_attachment, Node, Tree, children, sequence, only, AttachedTo, ClosedPart, has_node, Grown, Children}
 use Rattle.fugue.proofs.Beside.{Starts}
 use Rattle.fugue.proofs.Grown.{has_own, age, aged, OnOlder, age_below, grown_only, has_only, node_of_lem}
 use Rattle.fugue.proofs.Leaf.{leaf}
@@ -19,8 +19,8 @@ use Rattle.fugue.proofs.Nested.{sequence_part}
 use Rattle.fugue.proofs.Paths.{steps_older, steps_own, path_irreflexive, path_transitive, by_paths, members}
 use Rattle.fugue.proofs.Sequences.{children_are, sequence_right}
 use Rattle.walk_theory.specs.Origins.{Origin, behind, up_to, front, new_node}
-use Rattle.walk_theory.specs.Tops.{by_owner, topAt, beside_owner, comes_before}
-use Rattle.walk_theory.specs.Search.{attachment_in, until, climb, topOutside, top_precedes, top_follows, home, up, down, among, Found}
+use Rattle.walk_theory.specs.Tops.{by_owner, top_at, beside_owner, comes_before}
+use Rattle.walk_theory.specs.Search.{attachment_in, until, climb, top_outside, top_precedes, top_follows, home, up, down, among, Found}
 use Rattle.walk_theory.proofs.Gaps.{followed}
 use Rattle.walk_theory.proofs.Along.{Hangs, along}
 use Rattle.walk_theory.proofs.Forks.{alike}
@@ -86,12 +86,12 @@ upto_is y (n ∷ s) = let ih = upto_is y s in elim (cases_Bool (same n.name y)) 
 pub front_is : (p : Attachment) (s : List Node) → (v : Name → Bool) → Origin v p → front p s ++ behind p s ≡ s
 front_is root s v h = refl
 front_is (left_of y) s v h = elim h [ ]
-front_is (rightOf y) s v h = upto_is y s
+front_is (right_of y) s v h = upto_is y s
 
 pub behind_only : (v : Name → Bool) (p : Attachment) → Origin v p → (s : List Node) → behind p (only v s) ≡ only v (behind p s)
 behind_only v root h s = refl
 behind_only v (left_of y) h s = elim h [ ]
-behind_only v (rightOf y) h s = past_only v y h s
+behind_only v (right_of y) h s = past_only v y h s
 
 pub seat_is : (s : List Node) → Rising (λ m n. m.name ≡ n.name → ⊥) s → (n : Node) → n ∈ s → attachment_in s n.name ≡ n.attachment
 seat_is [] a n i = elim i [ ]
@@ -101,7 +101,7 @@ seat_is (m ∷ s) a n (inr i) = let f = same_not m.name n.name (all_member _ s n
 pub under_more : (r : Name → ℕ) (p : Attachment) (k d : ℕ) → OnOlder r p k → k ≤ d → OnOlder r p d
 under_more r root k d u l = tt
 under_more r (left_of y) k d u l = omega arith
-under_more r (rightOf y) k d u l = omega arith
+under_more r (right_of y) k d u l = omega arith
 
 climbs_more : (a b : Tree) → ((m : Node) → m ∈ a → m ∈ b) → (q r : Attachment) → Climbs a q r → Climbs b q r
 climbs_more a b h q r here = here
@@ -110,12 +110,12 @@ climbs_more a b h q r (on m i c) = on m (h m i) (climbs_more a b h q _ c)
 pub origin_like : (v w : Name → Bool) → ((y : Name) → v y ≡ true → w y ≡ true) → (p : Attachment) → Origin v p → Origin w p
 origin_like v w f root h = tt
 origin_like v w f (left_of y) h = elim h [ ]
-origin_like v w f (rightOf y) h = f y h
+origin_like v w f (right_of y) h = f y h
 
 pub as_rooted : (v : Name → Bool) (p : Attachment) → Origin v p → AttachedTo v p
 as_rooted v root h = tt
 as_rooted v (left_of y) h = elim h [ ]
-as_rooted v (rightOf y) h = h
+as_rooted v (right_of y) h = h
 
 module _ (before : Name → Name → Bool) (o : Ordered before) (t : Tree) (g : Grown t) where
   abbrev pub s : List Node
@@ -148,7 +148,7 @@ module _ (before : Name → Name → Bool) (o : Ordered before) (t : Tree) (g : 
       let r = cut_at y s (named_s y h) in
       subst (λ z. AllByRecursion (λ m. path_before before (path t z) (path t m.name) ≡ true) (after y s)) r.3 (rising_right Before r.0 (r.1 ∷ after y s) (rw r.2 at rises)).0
 
-  pub below_right : (x y : Name) → path_before before (path t y) (steps_to (steps t) (rightOf y) x ++ end ∷ []) ≡ true
+  pub below_right : (x y : Name) → path_before before (path t y) (steps_to (steps t) (right_of y) x ++ end ∷ []) ≡ true
   unfolding path
   below_right x y = ap (path_before before (steps t y ++ end ∷ [])) (append_assoc (steps t y) (right x ∷ []) (end ∷ [])) ∙ alike before o (steps t y) (end ∷ []) (right x ∷ end ∷ [])
 
@@ -160,17 +160,17 @@ module _ (before : Name → Name → Bool) (o : Ordered before) (t : Tree) (g : 
   pub beside_past : (p : Attachment) → Origin (has_node t) p → AllByRecursion (λ n. beside_owner before t p n.name ≡ false) (behind p s)
   beside_past root h = all_members _ s (λ n i. refl)
   beside_past (left_of y) h = elim h [ ]
-  beside_past (rightOf y) h = All-weaker _ _ (λ n k. rw k) (after y s) (passed y h)
+  beside_past (right_of y) h = All-weaker _ _ (λ n k. rw k) (after y s) (passed y h)
 
   module _ (v : Name → Bool) (cl : ClosedPart v t) where
-    -- a topAt of a node of the version is in the version
+    -- a top of a node of the version is in the version
     abbrev Kept : Attachment → Name → Type 0
-    Kept h y = v y ≡ true → (x : Name) → topAt t h y ≡ Some x → v x ≡ true
+    Kept h y = v y ≡ true → (x : Name) → top_at t h y ≡ Some x → v x ≡ true
 
-    kept_at : (h p : Attachment) (x : Name) → AttachedTo v p → Hangs (Kept h) p → by_owner (topAt t h) p ≡ Some x → v x ≡ true
+    kept_at : (h p : Attachment) (x : Name) → AttachedTo v p → Hangs (Kept h) p → by_owner (top_at t h) p ≡ Some x → v x ≡ true
     kept_at h root x r k e = absurd (let z : ◌≡◌ {A = ℕ} 0 1 = cc in omega arith)
     kept_at h (left_of y) x r k e = k r x e
-    kept_at h (rightOf y) x r k e = k r x e
+    kept_at h (right_of y) x r k e = k r x e
 
     pub top_kept : (h : Attachment) (y : Name) → has_node t y ≡ true → Kept h y
     top_kept h = along (Kept h) t (λ n i k w x e.
@@ -182,25 +182,25 @@ module _ (before : Name → Name → Bool) (o : Ordered before) (t : Tree) (g : 
 
     -- a place where the version has nothing
     module _ (h : Attachment) (bare : (m : Node) → m ∈ t → v m.name ≡ true → m.attachment ≡ h → ⊥) where
-      pub no_top : (y : Name) → has_node t y ≡ true → v y ≡ true → topAt t h y ≡ None
-      no_top y n w = go (topAt t h y) refl
+      pub no_top : (y : Name) → has_node t y ≡ true → v y ≡ true → top_at t h y ≡ None
+      no_top y n w = go (top_at t h y) refl
         where
-          go : (m : Option Name) → topAt t h y ≡ m → topAt t h y ≡ None
+          go : (m : Option Name) → top_at t h y ≡ m → top_at t h y ≡ None
           go None e = e
           go (Some x) e =
               let r = found t g h y n x e in
               absurd (bare r.0 r.1 (rw r.2 (top_kept h y n w x e)) r.3)
 
       abbrev Kin : Name → Type 0
-      Kin y = (d : ℕ) → age t y < d → topOutside d s v h y ≡ topAt t h y
+      Kin y = (d : ℕ) → age t y < d → top_outside d s v h y ≡ top_at t h y
 
-      kin_at : (p : Attachment) (d k : ℕ) → Hangs Kin p → OnOlder (age t) p k → k ≤ d → by_owner (topOutside d s v h) p ≡ by_owner (topAt t h) p
+      kin_at : (p : Attachment) (d k : ℕ) → Hangs Kin p → OnOlder (age t) p k → k ≤ d → by_owner (top_outside d s v h) p ≡ by_owner (top_at t h) p
       kin_at root d k i u l = refl
       kin_at (left_of y) d k i u l = i d (omega arith)
-      kin_at (rightOf y) d k i u l = i d (omega arith)
+      kin_at (right_of y) d k i u l = i d (omega arith)
 
       kin_step : (n : Node) → n ∈ t → Hangs Kin n.attachment → Kin n.name
-      unfolding topOutside
+      unfolding top_outside
       kin_step n i k zero l = absurd (omega arith)
       kin_step n i k (suc d) l = elim (cases_Bool (v n.name)) [
         | inl w ↦ rw w (sym (no_top n.name (all_member _ t n (has_own t) i) w))
@@ -218,7 +218,7 @@ module _ (before : Name → Name → Bool) (o : Ordered before) (t : Tree) (g : 
     climb_here p h zero = refl
     climb_here root h (suc d) = refl
     climb_here (left_of y) h (suc d) = elim h [ ]
-    climb_here (rightOf y) h (suc d) = refl
+    climb_here (right_of y) h (suc d) = refl
 
     climb_is : (p : Attachment) → Origin v p → (d : ℕ) (r : Attachment) → Climbs t p r → OnOlder (age t) r d → climb d s r ≡ p
     unfolding climb
@@ -235,7 +235,7 @@ module _ (before : Name → Name → Bool) (o : Ordered before) (t : Tree) (g : 
     unfolding climb
     climb_held p zero m q i w e c = (m, i, w, e ∙ c)
     climb_held p (suc d) m root i w e c = (m, i, w, e ∙ c)
-    climb_held p (suc d) m (rightOf y) i w e c = (m, i, w, e ∙ c)
+    climb_held p (suc d) m (right_of y) i w e c = (m, i, w, e ∙ c)
     climb_held p (suc d) m (left_of y) i w e c =
         let vy : v y ≡ true = subst (AttachedTo v) e (all_member _ t m cl i w) in
         let ny : has_node t y ≡ true = subst (AttachedTo (has_node t)) e (all_member _ t m (inside t g) i).1 in
@@ -281,10 +281,10 @@ module _ (before : Name → Name → Bool) (o : Ordered before) (t : Tree) (g : 
         falls : Falls B s
         falls = rises_weaker _ _ (λ m n k b. path_transitive before o (path t m.name) (path t n.name) goal k b) s rises
 
-        judged : (y : Name) → has_node t y ≡ true → path_before before (path t y) goal ≡ comes_before before t h x y (topAt t h y)
+        judged : (y : Name) → has_node t y ≡ true → path_before before (path t y) goal ≡ comes_before before t h x y (top_at t h y)
         judged y n = sides before o t g h rh x y fx n
 
-        kin_here : (y : Name) → has_node t y ≡ true → topOutside d s v h y ≡ topAt t h y
+        kin_here : (y : Name) → has_node t y ≡ true → top_outside d s v h y ≡ top_at t h y
         kin_here y n = outside_is h bare y n d (omega (arith, age_below t y n))
 
         -- of a node of the version
@@ -324,10 +324,10 @@ module _ (before : Name → Name → Bool) (o : Ordered before) (t : Tree) (g : 
             let r = cut_at y s (named_s y n) in
             rw r.4 (all_low B r.0 r.1 (after y s) (rw r.2 at falls) (rw r.3 b))
 
-        low_at : (q : Attachment) → Origin (has_node t) q → ((y : Name) → q ≡ rightOf y → has_node t y ≡ true → path_before before (path t y) goal ≡ true) → AllByRecursion (λ n. B n ≡ true) (front q s)
+        low_at : (q : Attachment) → Origin (has_node t) q → ((y : Name) → q ≡ right_of y → has_node t y ≡ true → path_before before (path t y) goal ≡ true) → AllByRecursion (λ n. B n ≡ true) (front q s)
         low_at root k f = tt
         low_at (left_of y) k f = elim k [ ]
-        low_at (rightOf y) k f = low_front y k (f y refl k)
+        low_at (right_of y) k f = low_front y k (f y refl k)
 
       -- at the right of the left origin
       module _ (bare : (m : Node) → m ∈ t → v m.name ≡ true → m.attachment ≡ p → ⊥) where
@@ -338,13 +338,13 @@ module _ (before : Name → Name → Bool) (o : Ordered before) (t : Tree) (g : 
         root_p : AttachedTo (has_node t) p
         root_p = as_rooted (has_node t) p qt
 
-        right_like : AllByRecursion (λ n. B p root_p bare n ≡ top_precedes before x (topOutside d s v p n.name)) mid
+        right_like : AllByRecursion (λ n. B p root_p bare n ≡ top_precedes before x (top_outside d s v p n.name)) mid
         right_like =
-            All-weaker _ _ (λ n k. judged p root_p bare n.name k.0 ∙ prec n.name (topAt t p n.name) k.1 ∙ ap (top_precedes before x) (sym (kin_here p root_p bare n.name k.0)))
+            All-weaker _ _ (λ n k. judged p root_p bare n.name k.0 ∙ prec n.name (top_at t p n.name) k.1 ∙ ap (top_precedes before x) (sym (kin_here p root_p bare n.name k.0)))
             mid (all_mid _ (all_both _ _ (behind p s) named_behind (beside_past p qt)))
 
         -- along the run the answer turns once
-        pub right_turns : Falls (λ n. top_precedes before x (topOutside d s v p n.name)) mid
+        pub right_turns : Falls (λ n. top_precedes before x (top_outside d s v p n.name)) mid
         right_turns = falls_like _ _ mid right_like (falls_mid p root_p bare)
 
         rights : prefix_len (B p root_p bare) s ≡ length (front p s) + up before d s v p x
@@ -361,12 +361,12 @@ module _ (before : Name → Name → Bool) (o : Ordered before) (t : Tree) (g : 
         root_n : has_node t n.name ≡ true
         root_n = (rw er at (all_rest _ named_behind)).0
 
-        behind_n : (q : Attachment) → q ≡ p → (y : Name) → q ≡ rightOf y → has_node t y ≡ true → path_before before (path t y) (path t n.name) ≡ true
+        behind_n : (q : Attachment) → q ≡ p → (y : Name) → q ≡ right_of y → has_node t y ≡ true → path_before before (path t y) (path t n.name) ≡ true
         behind_n q e y f k =
             let a : AllByRecursion (λ m. path_before before (path t y) (path t m.name) ≡ true) (behind p s) = subst (λ z. AllByRecursion (λ m. path_before before (path t y) (path t m.name) ≡ true) (behind z s)) (sym f ∙ e) (passed y k) in
             (rw er at (all_rest _ a)).0
 
-        foll : (y : Name) → has_node t y ≡ true → path_before before (path t y) (path t n.name) ≡ true → (m : Option Name) → topAt t (left_of n.name) y ≡ m
+        foll : (y : Name) → has_node t y ≡ true → path_before before (path t y) (path t n.name) ≡ true → (m : Option Name) → top_at t (left_of n.name) y ≡ m
             → not (comes_before before t (left_of n.name) x y m) ≡ top_follows before x m
         foll y k b None e = rw b
         foll y k b (Some w) e =
@@ -382,14 +382,14 @@ module _ (before : Name → Name → Bool) (o : Ordered before) (t : Tree) (g : 
             let a : Rising Before (mid ++ n ∷ r) = rw er at (rw (← (until_from v (behind p s))) at (rising_right Before (front p s) (behind p s) (rw (← (front_is p s (has_node t) qt)) at rises))) in
             all_members _ mid (λ m i. rising_across Before mid (n ∷ r) a m n i (inl refl))
 
-        left_like : AllByRecursion (λ m. not (B (left_of n.name) root_n bare m) ≡ top_follows before x (topOutside d s v (left_of n.name) m.name)) mid
+        left_like : AllByRecursion (λ m. not (B (left_of n.name) root_n bare m) ≡ top_follows before x (top_outside d s v (left_of n.name) m.name)) mid
         left_like =
             All-weaker _ _ (λ m k.
-            ap not (judged (left_of n.name) root_n bare m.name k.0) ∙ foll m.name k.0 k.1 (topAt t (left_of n.name) m.name) refl
+            ap not (judged (left_of n.name) root_n bare m.name k.0) ∙ foll m.name k.0 k.1 (top_at t (left_of n.name) m.name) refl
             ∙ ap (top_follows before x) (sym (kin_here (left_of n.name) root_n bare m.name k.0)))
             mid (all_both _ _ mid (all_mid _ named_behind) mids)
 
-        pub left_turns : Falls (λ m. not (top_follows before x (topOutside d s v (left_of n.name) m.name))) mid
+        pub left_turns : Falls (λ m. not (top_follows before x (top_outside d s v (left_of n.name) m.name))) mid
         left_turns =
             falls_like _ _ mid (All-weaker _ _ (λ m e. sym (twice (B (left_of n.name) root_n bare m)) ∙ ap not e) mid left_like) (falls_mid (left_of n.name) root_n bare)
           where
@@ -428,7 +428,7 @@ module _ (before : Name → Name → Bool) (o : Ordered before) (t : Tree) (g : 
           let z = sequence_right before o tv gv in
           begins before o tv z.in_sequence root (all_members _ z.tops (λ j w. (z.children.are j).0 w)) k ((z.children.are k).1 (i, e))
       begun_at (left_of y) h k i e = elim h [ ]
-      begun_at (rightOf y) h k i e = nexts before o tv (sequence_right before o tv gv).in_sequence y (named_sv y h) k i e
+      begun_at (right_of y) h k i e = nexts before o tv (sequence_right before o tv gv).in_sequence y (named_sv y h) k i e
 
       started : (k : Node) → k ∈ tv → k.attachment ≡ p → Starts before o tv (behind p (sequence before tv))
       started k i e = followed before o tv gv p origin_tv k i e
@@ -489,13 +489,13 @@ module _ (before : Name → Name → Bool) (o : Ordered before) (t : Tree) (g : 
         no_left : (q : Attachment) → Origin v q → (y : Name) → q ≡ left_of y → ⊥
         no_left root h y e = let z : ◌≡◌ {A = ℕ} 0 1 = cc in omega arith
         no_left (left_of w) h y e = h
-        no_left (rightOf w) h y e = let z : ◌≡◌ {A = ℕ} 0 1 = cc in omega arith
+        no_left (right_of w) h y e = let z : ◌≡◌ {A = ℕ} 0 1 = cc in omega arith
 
         -- the home says which way the answer turns along the run
-        pub home_right : home d s p (only v (behind p s)) ≡ p → Falls (λ n. top_precedes before x (topOutside d s v p n.name)) mid
+        pub home_right : home d s p (only v (behind p s)) ≡ p → Falls (λ n. top_precedes before x (top_outside d s v p n.name)) mid
         home_right e = go (children before tv p) refl
           where
-            go : (ks : List Node) → children before tv p ≡ ks → Falls (λ n. top_precedes before x (topOutside d s v p n.name)) mid
+            go : (ks : List Node) → children before tv p ≡ ks → Falls (λ n. top_precedes before x (top_outside d s v p n.name)) mid
             go [] z = right_turns (where_free z)
             go (k ∷ ks) z =
                 let i = ((children_are before o tv gv p).are k).0 (rw z (inl refl)) in
@@ -504,10 +504,10 @@ module _ (before : Name → Name → Bool) (o : Ordered before) (t : Tree) (g : 
                 absurd (no_left p qv b.0.name (sym e ∙ ap (home d s p) (sym follow_is ∙ b.2) ∙ r))
 
         pub home_left : (n : Node) (ns : List Node) → only v (behind p s) ≡ n ∷ ns → home d s p (only v (behind p s)) ≡ left_of n.name
-            → Falls (λ m. not (top_follows before x (topOutside d s v (left_of n.name) m.name))) mid
+            → Falls (λ m. not (top_follows before x (top_outside d s v (left_of n.name) m.name))) mid
         home_left n ns ef e = go (children before tv p) refl
           where
-            go : (ks : List Node) → children before tv p ≡ ks → Falls (λ m. not (top_follows before x (topOutside d s v (left_of n.name) m.name))) mid
+            go : (ks : List Node) → children before tv p ≡ ks → Falls (λ m. not (top_follows before x (top_outside d s v (left_of n.name) m.name))) mid
             go [] z = absurd (no_left p qv n.name (sym (told [] (only v (behind p s)) z refl).0 ∙ e))
             go (k ∷ ks) z =
                 let i = ((children_are before o tv gv p).are k).0 (rw z (inl refl)) in

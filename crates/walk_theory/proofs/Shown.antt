@@ -7,7 +7,7 @@ use Rattle.events.specs.declared.name.Name.{Name}
 use Rattle.fugue.specs.Names.{has, Ordered, ◌∈◌}
 use Rattle.fugue.specs.Logs.{NewestFirst, version, Distinct}
 use Rattle.fugue.specs.Tree.{Node, Tree, sequence, only, node_names, ClosedPart, has_node, Grown}
-use Rattle.fugue.specs.Placements.{Placed, target_of, nodes, targets, struck, part_of, visible, placements, seen, treeAt, tree}
+use Rattle.fugue.specs.Placements.{Placed, target_of, nodes, targets, struck, part_of, visible, placements, seen, tree_at, tree}
 use Rattle.fugue.proofs.Names.{has_append}
 use Rattle.fugue.proofs.Lists.{all_members, kept_whole, kept_like}
 use Rattle.fugue.proofs.Grown.{has_own, node_of_lem, inside}
@@ -104,7 +104,7 @@ module _ (before : Name → Name → Bool) (o : Ordered before) (log closed : Ne
       (listed_from before o (tree before closed) small later whole listed h.stands n.name (in_map (λ m. m.name) listed n i))
 
   part_nodes : (heads : List Name) → nodes (seen before log heads) ≡ only (has (version log heads)) whole
-  unfolding treeAt
+  unfolding tree_at
   part_nodes heads = tree_part before log heads
 
   pub shows_versions : (heads : List Name) → Sees log heads closed → node_names (visible before (seen before log heads)) ≡ node_names (shown_at before log heads listed)

@@ -9,7 +9,7 @@ use Rattle.fugue.proofs.Grown.{inside}
 use Rattle.fugue.specs.Names.{Ordered, ◌∈◌, Rising}
 use Rattle.fugue.specs.Paths.{path, path_before}
 use Rattle.fugue.specs.Placements.{after, attached_by}
-use Rattle.fugue.specs.Tree.{sorted, Attachment, root, left_of, rightOf, Node, Tree, children, sequence, AttachedTo, only, ClosedPart, has_node, Grown, Children}
+use Rattle.fugue.specs.Tree.{sorted, Attachment, root, left_of, right_of, Node, Tree, children, sequence, AttachedTo, only, ClosedPart, has_node, Grown, Children}
 use Rattle.fugue.proofs.Beside.{up_to_after, after_append}
 use Rattle.fugue.proofs.Grown.{has_own, node_of_lem}
 use Rattle.fugue.proofs.Leaf.{leaf}
@@ -48,7 +48,7 @@ long_as before o (e ∷ t) g =
 attached_none : (before : Name → Name → Bool) (q : Attachment) → attached_over before [] q ≡ q
 attached_none before root = ap (λ ks. attached_by ks (sequence before []) root) (empty_kids before root)
 attached_none before (left_of z) = refl
-attached_none before (rightOf z) = refl
+attached_none before (right_of z) = refl
 
 over_none : (before : Name → Name → Bool) (t : Tree) → t ≡ grown_over before [] t
 over_none before [] = refl
@@ -61,7 +61,7 @@ laid_none (n ∷ t) g = (refl, g.0, attachment_in n.attachment g.1, laid_none t 
     attachment_in : (q : Attachment) → AttachedTo (has_node t) q → OnLater (has_node []) (has_node t) q
     attachment_in root h = tt
     attachment_in (left_of z) h = h
-    attachment_in (rightOf z) h = inr h
+    attachment_in (right_of z) h = inr h
 
 pub opens : (before : Name → Name → Bool) → Ordered before → (t : Tree) → Grown t → Stands before [] [] t t (sequence before t)
 opens before o t g = record {
@@ -98,19 +98,19 @@ module _ (before : Name → Name → Bool) (o : Ordered before) where
       let s' : sequence before (e ∷ t) ≡ s ++ e ∷ [] = at_gap before o t g n.name n.character a.0 q h k ∙ ap₂ (λ x y. x ++ e ∷ y) ef eb in
       let fresh = not_in_s t g n.name a.0 in
       let p : after n.name (s ++ e ∷ []) ≡ [] = after_append before o t n.name s (e ∷ []) ∙ rw (fresh, same_own n.name) in
-      let u : front (rightOf n.name) (s ++ e ∷ []) ≡ s ++ e ∷ []
-      = sym (up_to_after n.name (s ++ e ∷ []) ∙ ap (λ z. front (rightOf n.name) (s ++ e ∷ []) ++ z) p ∙ append-nil (front (rightOf n.name) (s ++ e ∷ []))) in
-      let c = chain l (e ∷ t) (a.0, held, g) (rightOf n.name) (or_left _ _ (same_own n.name)) (bare held)
-      (subst (λ z. front (rightOf n.name) z ≡ z) (sym s') u) (subst (λ z. after n.name z ≡ []) (sym s') p)
+      let u : front (right_of n.name) (s ++ e ∷ []) ≡ s ++ e ∷ []
+      = sym (up_to_after n.name (s ++ e ∷ []) ∙ ap (λ z. front (right_of n.name) (s ++ e ∷ []) ++ z) p ∙ append-nil (front (right_of n.name) (s ++ e ∷ []))) in
+      let c = chain l (e ∷ t) (a.0, held, g) (right_of n.name) (or_left _ _ (same_own n.name)) (bare held)
+      (subst (λ z. front (right_of n.name) z ≡ z) (sym s') u) (subst (λ z. after n.name z ≡ []) (sym s') p)
       (All-weaker _ _ (λ m z. or_from _ _ (same_not n.name m.name z.0) z.1) l (all_both _ _ l r.0 a.1)) r.1 in
-      record { grown = c.grown; is = c.is ∙ ap (λ z. z ++ in_chain (rightOf n.name) l) s' ∙ append_assoc s (e ∷ []) (in_chain (rightOf n.name) l) }
+      record { grown = c.grown; is = c.is ∙ ap (λ z. z ++ in_chain (right_of n.name) l) s' ∙ append_assoc s (e ∷ []) (in_chain (right_of n.name) l) }
     where
       as_root : (q : Attachment) → Origin (has_node t) q → AttachedTo (has_node t) q
       as_root root h = tt
       as_root (left_of y) h = elim h [ ]
-      as_root (rightOf y) h = h
+      as_root (right_of y) h = h
 
-      bare : AttachedTo (has_node t) q → Children before (link n q ∷ t) (rightOf n.name) []
+      bare : AttachedTo (has_node t) q → Children before (link n q ∷ t) (right_of n.name) []
       bare held = record {
         are = λ m. (
           (λ i. elim i [ ]),
@@ -124,7 +124,7 @@ module _ (before : Name → Name → Bool) (o : Ordered before) where
 
   names_linked : (q : Attachment) (l : List Node) → node_names (in_chain q l) ≡ node_names l
   names_linked q [] = refl
-  names_linked q (n ∷ l) = ap (λ z. n.name ∷ z) (names_linked (rightOf n.name) l)
+  names_linked q (n ∷ l) = ap (λ z. n.name ∷ z) (names_linked (right_of n.name) l)
 
   no_kids : Children before [] root []
   no_kids = record { are = λ n. ((λ i. elim i [ ]), (λ i. elim i.0 [ ])); rise = tt }

@@ -6,7 +6,7 @@ use Rattle.events.specs.Parts.{NamedEvent}
 use Rattle.fugue.specs.Names.{same, has}
 use Rattle.fugue.specs.Logs.{NewestFirst, version, Distinct}
 use Rattle.fugue.specs.Tree.{Node, Tree, only, has_node, Grown}
-use Rattle.fugue.specs.Placements.{Placement, inserted, deleted, beyond, Placed, node_of, target_of, nodes, targets, struck, part_of, placements, seen, placementIn, treeAt, tree}
+use Rattle.fugue.specs.Placements.{Placement, inserted, deleted, beyond, Placed, node_of, target_of, nodes, targets, struck, part_of, placements, seen, placement_in, tree_at, tree}
 use Rattle.fugue.proofs.Names.{same_name, has_append}
 use Rattle.fugue.proofs.Lists.{all_members, kept_like}
 use Rattle.fugue.proofs.Versions.{reach, reach_parent, other_event, version_cases, version_older, version_mono, version_held, version_step}
@@ -67,7 +67,7 @@ first_or_rest v p ps x h = go (has v p.name) refl h
     go false e k = inr k
 
 module _ (before : Name → Name → Bool) where
-  target_seen : (e : NamedEvent) (older : NewestFirst) (x : Name) (m : Placement) → Fitting (treeAt before older e.parents) e.name m → has (target_of m) x ≡ true
+  target_seen : (e : NamedEvent) (older : NewestFirst) (x : Name) (m : Placement) → Fitting (tree_at before older e.parents) e.name m → has (target_of m) x ≡ true
       → has (version older e.parents) x ≡ true
   target_seen e older x (inserted n) f h = absurd (both_ways false refl h)
   target_seen e older x (deleted y) f h = elim (or_cases _ _ h) [
@@ -88,7 +88,7 @@ module _ (before : Name → Name → Bool) where
       elim (first_or_rest (version (e ∷ older) heads) (place before older e) (placements before older) x (rw (placements_step before e older) at h)) [
         | inl q ↦ elim (version_cases e older heads e.name q.0) [
           | inl r ↦ version_older e older heads x (version_mono older e.parents (reach e heads) (λ y. reach_parent e heads y r.0) x
-              (target_seen e older x (placementIn before older e) (sound_in before e older) q.1))
+              (target_seen e older x (placement_in before older e) (sound_in before e older) q.1))
           | inr r ↦ absurd (both_ways _ u.0 (version_held older (reach e heads) e.name r))
         ]
         | inr q ↦ version_older e older heads x (struck_in older u.1 (reach e heads) x (subst (λ z. struck z x ≡ true) like q))
@@ -105,7 +105,7 @@ module _ (before : Name → Name → Bool) where
   pub states_tell : (log : NewestFirst) → Distinct log → (heads : List Name) (x : Name) → has_node (tree before log) x ≡ true
       → (ltb 0 (state_in (seen before log heads) x) ≡ has (version log heads) x)
       × (eqb (state_in (seen before log heads) x) 1 ≡ (has (version log heads) x && not (struck (seen before log heads) x)))
-  unfolding treeAt
+  unfolding tree_at
   states_tell log u heads x h =
       let w = has (version log heads) in
       let a : inserts_of (nodes (seen before log heads)) x ≡ cond (w x) 1 0 = ap (λ t. inserts_of t x) (tree_part before log heads) ∙ one_insert (tree before log) (grown_log before log u) w x h in

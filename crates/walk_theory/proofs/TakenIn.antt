@@ -12,7 +12,7 @@ use Rattle.events.specs.Parts.{NamedEvent}
 use Rattle.fugue.specs.Names.{same, has, Ordered}
 use Rattle.fugue.specs.Logs.{NewestFirst, version, Distinct}
 use Rattle.fugue.specs.Tree.{Node, Tree, only, node_names, has_node}
-use Rattle.fugue.specs.Placements.{inserted, deleted, beyond, node_of, struck, LeftOrigin, start, node, left_origin, right_end_of, visible, attachmentAfter, placement, seen, placementIn, treeAt, tree}
+use Rattle.fugue.specs.Placements.{inserted, deleted, beyond, node_of, struck, LeftOrigin, start, node, left_origin, right_end_of, visible, attachment_after, placement, seen, placement_in, tree_at, tree}
 use Rattle.fugue.proofs.Names.{same_not}
 use Rattle.fugue.proofs.Lists.{all_member, all_members, all_left, member_kept}
 use Rattle.fugue.proofs.Grown.{node_in}
@@ -48,8 +48,8 @@ origin_passes pass [] a (suc p) (node y) e = absurd (let z : ◌≡◌ {A = ℕ}
 origin_passes pass (n ∷ ns) a (suc zero) (node y) e = let z : n.name ≡ y = cc in rw z at a.0
 origin_passes pass (n ∷ ns) a (suc (suc p)) (node y) e = origin_passes pass ns a.1 (suc p) (node y) e
 
-home_after : (before : Name → Name → Bool) (t : Tree) (q : LeftOrigin) → attachmentAfter before t q ≡ home_in before t (right_end_of q)
-unfolding attachmentAfter
+home_after : (before : Name → Name → Bool) (t : Tree) (q : LeftOrigin) → attachment_after before t q ≡ home_in before t (right_end_of q)
+unfolding attachment_after
 home_after before t start = refl
 home_after before t (node y) = refl
 
@@ -73,14 +73,14 @@ module _ (before : Name → Name → Bool) (o : Ordered before) (e : NamedEvent)
   shown_names = shows_versions before o log closed u.1 small later listed h e.parents sees
 
   placed_insert : (c : Character) (p : Position) → e.deed ≡ deed.Insert c p
-      → placementIn before log e ≡ inserted_at before (seen before log e.parents) e.name c (left_origin shown p.at)
-  unfolding placementIn placement
+      → placement_in before log e ≡ inserted_at before (seen before log e.parents) e.name c (left_origin shown p.at)
+  unfolding placement_in placement
   placed_insert c p f =
       ap (placement before (seen before log e.parents) e.name) f
       ∙ ap (inserted_at before (seen before log e.parents) e.name c) (origin_like _ _ shown_names p.at)
 
-  placed_delete : (p : Position) → e.deed ≡ deed.Delete p → placementIn before log e ≡ deleted_at (slice_get shown p.at)
-  unfolding placementIn placement
+  placed_delete : (p : Position) → e.deed ≡ deed.Delete p → placement_in before log e ≡ deleted_at (slice_get shown p.at)
+  unfolding placement_in placement
   placed_delete p f = ap (placement before (seen before log e.parents) e.name) f ∙ target_like _ _ shown_names p.at
 
   -- the version has all that is closed off
@@ -97,20 +97,20 @@ module _ (before : Name → Name → Bool) (o : Ordered before) (e : NamedEvent)
 
   module _ (c : Character) (p : Position) (f : e.deed ≡ deed.Insert c p) (q : LeftOrigin) (found : left_origin shown p.at ≡ Some q) where
     abbrev new : Node
-    new = new_node e.name (attachmentAfter before (treeAt before log e.parents) q) c
+    new = new_node e.name (attachment_after before (tree_at before log e.parents) q) c
 
     abbrev place : ℕ
     place = place_in before e log listed d q
 
-    placed_new : placementIn before log e ≡ inserted new
-    unfolding treeAt
+    placed_new : placement_in before log e ≡ inserted new
+    unfolding tree_at
     placed_new = placed_insert c p f ∙ ap (inserted_at before (seen before log e.parents) e.name c) found
 
     new_tree : tree before (e ∷ log) ≡ new ∷ whole
     new_tree = tree_step before e log ∙ ap (λ m. node_of m ++ whole) placed_new
 
     new_is : new ≡ new_node e.name (home_in before (only v whole) (right_end_of q)) c
-    new_is = ap (λ w. new_node e.name w c) (home_after before (treeAt before log e.parents) q ∙ ap (λ t. home_in before t (right_end_of q)) (tree_part before log e.parents))
+    new_is = ap (λ w. new_node e.name w c) (home_after before (tree_at before log e.parents) q ∙ ap (λ t. home_in before t (right_end_of q)) (tree_part before log e.parents))
 
     step : StepStands before (tree before closed) small later whole listed d v (right_end_of q) e.name c
     step =
@@ -149,7 +149,7 @@ module _ (before : Name → Name → Bool) (o : Ordered before) (e : NamedEvent)
     }
 
   module _ (p : Position) (f : e.deed ≡ deed.Delete p) (n : Node) (found : slice_get shown p.at ≡ Some n) where
-    placed_strike : placementIn before log e ≡ deleted n.name
+    placed_strike : placement_in before log e ≡ deleted n.name
     placed_strike = placed_delete p f ∙ ap deleted_at found
 
     same_tree : tree before (e ∷ log) ≡ whole

@@ -3,7 +3,7 @@ use Rattle.std.specs.Prelude.{◌≡◌, Bool, true, false, cond, ◌⊎◌, Lis
 use Rattle.events.specs.declared.name.Name.{Name}
 use Rattle.fugue.specs.Names.{Ordered}
 use Rattle.fugue.specs.Placements.{attached_by}
-use Rattle.fugue.specs.Tree.{Attachment, root, left_of, rightOf, Node, Tree, children, sequence, only, has_node, Grown}
+use Rattle.fugue.specs.Tree.{Attachment, root, left_of, right_of, Node, Tree, children, sequence, only, has_node, Grown}
 use Rattle.walk_theory.specs.Origins.{behind}
 
 -- where a new node hangs behind a left origin, by a whole tree
@@ -16,7 +16,7 @@ module _ (before : Name → Name → Bool) (b : Tree) where
   abbrev pub attached_over : Attachment → Attachment
   attached_over root = home_in before b root
   attached_over (left_of z) = left_of z
-  attached_over (rightOf z) = cond (has_node b z) (home_in before b (rightOf z)) (rightOf z)
+  attached_over (right_of z) = cond (has_node b z) (home_in before b (right_of z)) (right_of z)
 
   abbrev pub node_over : Node → Node
   node_over a = record { name = a.name; attachment = attached_over a.attachment; character = a.character }
@@ -30,7 +30,7 @@ module _ (before : Name → Name → Bool) (b : Tree) where
 abbrev pub OnLater : (Name → Bool) → (Name → Bool) → Attachment → Type 0
 OnLater kept late root = Unit {0}
 OnLater kept late (left_of z) = late z ≡ true
-OnLater kept late (rightOf z) = (kept z ≡ true) ⊎ (late z ≡ true)
+OnLater kept late (right_of z) = (kept z ≡ true) ⊎ (late z ≡ true)
 
 -- later nodes, newest first, beside all that were there and those that were kept
 abbrev pub LaterNodes : (Name → Bool) → (Name → Bool) → List Node → Type 0

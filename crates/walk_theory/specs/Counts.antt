@@ -4,7 +4,7 @@ use Rattle.events.specs.declared.name.Name.{Name}
 use Rattle.fugue.specs.Names.{Ordered, Rising}
 use Rattle.fugue.specs.Tree.{Attachment, left_of, same_attachment, Node, Tree, sequence, only, ClosedPart, has_node, Grown}
 use Rattle.walk_theory.specs.Origins.{Origin, behind, front}
-use Rattle.walk_theory.specs.Search.{until, topOutside, top_precedes, top_follows, home, place_for}
+use Rattle.walk_theory.specs.Search.{until, top_outside, top_precedes, top_follows, home, place_for}
 
 -- how many of a list hang at a place
 abbrev pub hung : (Name → Bool) → Attachment → List Node → ℕ
@@ -32,9 +32,9 @@ pub record Quickly (before : Name → Name → Bool) (d : ℕ) (t : Tree) (v : N
       ≡ length (front p (sequence before t)) + where_free (hung v p (sequence before t)) (length (until v (behind p (sequence before t)))) (only v (behind p (sequence before t)))
   -- along the run the scan's test turns once, so it can be found by halving
   pub turns_up : home d (sequence before t) p (only v (behind p (sequence before t))) ≡ p
-      → Rising (λ m n. top_precedes before x (topOutside d (sequence before t) v p n.name) ≡ true → top_precedes before x (topOutside d (sequence before t) v p m.name) ≡ true) (until v (behind p (sequence before t)))
+      → Rising (λ m n. top_precedes before x (top_outside d (sequence before t) v p n.name) ≡ true → top_precedes before x (top_outside d (sequence before t) v p m.name) ≡ true) (until v (behind p (sequence before t)))
   pub turns_down : (z : Node) (zs : List Node) → only v (behind p (sequence before t)) ≡ z ∷ zs → home d (sequence before t) p (only v (behind p (sequence before t))) ≡ left_of z.name
-      → Rising (λ m n. not (top_follows before x (topOutside d (sequence before t) v (left_of z.name) n.name)) ≡ true → not (top_follows before x (topOutside d (sequence before t) v (left_of z.name) m.name)) ≡ true)
+      → Rising (λ m n. not (top_follows before x (top_outside d (sequence before t) v (left_of z.name) n.name)) ≡ true → not (top_follows before x (top_outside d (sequence before t) v (left_of z.name) m.name)) ≡ true)
       (until v (behind p (sequence before t)))
 
 abbrev pub CountsSuffice : Type 0

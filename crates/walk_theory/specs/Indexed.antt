@@ -15,7 +15,7 @@ use Rattle.fugue.specs.declared.edit.Edit.TheVariants.{Insert, Delete, Nothing}
 use Rattle.fugue.specs.Names.{has, Ordered}
 use Rattle.fugue.specs.Logs.{NewestFirst, version, Distinct}
 use Rattle.fugue.specs.Tree.{Attachment, root, Node, Tree, sequence, only, node_names, has_node}
-use Rattle.fugue.specs.Placements.{inserted, deleted, beyond, struck, LeftOrigin, left_origin, right_end_of, visible, attachmentAfter, placements, seen, placementIn, treeAt, tree}
+use Rattle.fugue.specs.Placements.{inserted, deleted, beyond, struck, LeftOrigin, left_origin, right_end_of, visible, attachment_after, placements, seen, placement_in, tree_at, tree}
 use Rattle.fugue.specs.Edits.{in_front_of, edit}
 use Rattle.walk_theory.specs.Origins.{behind, new_node}
 use Rattle.walk_theory.specs.Search.{home, place_for}
@@ -77,13 +77,13 @@ module _ (before : Name → Name → Bool) (e : NamedEvent) (log : NewestFirst) 
 
 pub record Inserts (before : Name → Name → Bool) (e : NamedEvent) (log closed : NewestFirst) (small : Tree) (later listed : List Node) (d : ℕ) (o : LeftOrigin) (c : Character) : Type 0 where
   pub at : Attachment
-  pub placed : placementIn before log e ≡ inserted (new_node e.name (attachmentAfter before (treeAt before log e.parents) o) c)
+  pub placed : placement_in before log e ≡ inserted (new_node e.name (attachment_after before (tree_at before log e.parents) o) c)
   pub holds : Holds before (e ∷ log) closed small (new_node e.name at c ∷ later) (put_in before e log listed d o c)
   -- the edit counts what is in the text in front of the place
   pub edited : edit before log e ≡ Insert (length (only (unstruck before log) (take (place_in before e log listed d o) listed)))
 
 pub record Deletes (before : Name → Name → Bool) (e : NamedEvent) (log closed : NewestFirst) (small : Tree) (later listed : List Node) (n : Node) : Type 0 where
-  pub placed : placementIn before log e ≡ deleted n.name
+  pub placed : placement_in before log e ≡ deleted n.name
   pub holds : Holds before (e ∷ log) closed small later listed
   pub edited : edit before log e ≡ cond (struck (placements before log) n.name) Nothing (Delete (length (only (unstruck before log) (in_front_of n.name listed))))
 
@@ -94,9 +94,9 @@ pub record TakesIn (before : Name → Name → Bool) (e : NamedEvent) (log close
   pub deletes : (p : Position) → e.deed ≡ deed.Delete p → (n : Node) → slice_get (shown_at before log e.parents listed) p.at ≡ Some n
       → Deletes before e log closed small later listed n
   pub insert_beyond : (c : Character) (p : Position) → e.deed ≡ deed.Insert c p → left_origin (shown_at before log e.parents listed) p.at ≡ None
-      → placementIn before log e ≡ beyond
+      → placement_in before log e ≡ beyond
   pub delete_beyond : (p : Position) → e.deed ≡ deed.Delete p → slice_get (shown_at before log e.parents listed) p.at ≡ None
-      → placementIn before log e ≡ beyond
+      → placement_in before log e ≡ beyond
 
 -- The index goes on with every event whose parents' version has all closed-off events; d is as deep as the list is long.
 abbrev pub GoesOn : Type 0

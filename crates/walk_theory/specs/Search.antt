@@ -5,7 +5,7 @@ use Rattle.events.specs.declared.name.Name.{Name}
 use Rattle.events.specs.declared.character.Character.{Character}
 use Rattle.fugue.specs.Names.{same, Ordered}
 use Rattle.fugue.specs.Placements.{attached_by}
-use Rattle.fugue.specs.Tree.{Attachment, root, left_of, rightOf, same_attachment, Node, Tree, children, sequence, only, ClosedPart, has_node, Grown}
+use Rattle.fugue.specs.Tree.{Attachment, root, left_of, right_of, same_attachment, Node, Tree, children, sequence, only, ClosedPart, has_node, Grown}
 use Rattle.walk_theory.specs.Origins.{Origin, behind, front, new_node}
 use Rattle.walk_theory.specs.Tops.{by_owner}
 
@@ -24,12 +24,12 @@ unfoldable pub climb : ℕ → List Node → Attachment → Attachment
 climb zero s q = q
 climb (suc d) s root = root
 climb (suc d) s (left_of y) = climb d s (attachment_in s y)
-climb (suc d) s (rightOf y) = rightOf y
+climb (suc d) s (right_of y) = right_of y
 
 -- go up from a node to one at the place h, and not into the version
-unfoldable pub topOutside : ℕ → List Node → (Name → Bool) → Attachment → Name → Option Name
-topOutside zero s v h y = None
-topOutside (suc d) s v h y = cond (v y) None (cond (same_attachment (attachment_in s y) h) (Some y) (by_owner (topOutside d s v h) (attachment_in s y)))
+unfoldable pub top_outside : ℕ → List Node → (Name → Bool) → Attachment → Name → Option Name
+top_outside zero s v h y = None
+top_outside (suc d) s v h y = cond (v y) None (cond (same_attachment (attachment_in s y) h) (Some y) (by_owner (top_outside d s v h) (attachment_in s y)))
 
 module _ (before : Name → Name → Bool) (x : Name) where
   abbrev pub top_precedes : Option Name → Bool
@@ -51,10 +51,10 @@ module _ (before : Name → Name → Bool) (d : ℕ) (s : List Node) (v : Name �
 
   -- how many of the run come before it
   abbrev pub up : ℕ
-  up = prefix_len (λ n. top_precedes before x (topOutside d s v p n.name)) run
+  up = prefix_len (λ n. top_precedes before x (top_outside d s v p n.name)) run
 
   abbrev pub down : Name → ℕ
-  down z = length run - suffix_len (λ n. top_follows before x (topOutside d s v (left_of z) n.name)) run
+  down z = length run - suffix_len (λ n. top_follows before x (top_outside d s v (left_of z) n.name)) run
 
   abbrev pub among : List Node → ℕ
   among [] = up

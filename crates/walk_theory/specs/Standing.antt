@@ -3,7 +3,7 @@ use Rattle.std.specs.Prelude.{◌≡◌, ℕ, ◌≤◌, Bool, true, false, ◌&
 use Rattle.events.specs.declared.name.Name.{Name}
 use Rattle.events.specs.declared.character.Character.{Character}
 use Rattle.fugue.specs.Names.{Ordered}
-use Rattle.fugue.specs.Tree.{Attachment, root, rightOf, Node, Tree, sequence, only, ClosedPart, has_node, Grown}
+use Rattle.fugue.specs.Tree.{Attachment, root, right_of, Node, Tree, sequence, only, ClosedPart, has_node, Grown}
 use Rattle.walk_theory.specs.Origins.{Origin, behind, new_node}
 use Rattle.walk_theory.specs.Search.{home, place_for}
 use Rattle.walk_theory.specs.Bases.{home_in, grown_over, LaterNodes, node_names, Agrees}
@@ -31,11 +31,11 @@ StandsAtFirst = (before : Name → Name → Bool) → Ordered before → (t : Tr
 -- each hangs at the right of the one before
 abbrev pub in_chain : Attachment → List Node → List Node
 in_chain q [] = []
-in_chain q (n ∷ ns) = record { name = n.name; attachment = q; character = n.character } ∷ in_chain (rightOf n.name) ns
+in_chain q (n ∷ ns) = record { name = n.name; attachment = q; character = n.character } ∷ in_chain (right_of n.name) ns
 
 abbrev pub chain_tree : Tree → Attachment → List Node → Tree
 chain_tree t q [] = t
-chain_tree t q (n ∷ ns) = chain_tree (record { name = n.name; attachment = q; character = n.character } ∷ t) (rightOf n.name) ns
+chain_tree t q (n ∷ ns) = chain_tree (record { name = n.name; attachment = q; character = n.character } ∷ t) (right_of n.name) ns
 
 -- A checkpoint keeps some of the listed nodes, and links them. Then all is closed off.
 abbrev pub CheckpointStands : Type 0

@@ -6,10 +6,10 @@ use Rattle.events.specs.Parts.{NamedEvent}
 use Rattle.fugue.specs.Names.{◌∈◌, has}
 use Rattle.fugue.specs.Logs.{NewestFirst, names, Behind, version}
 use Rattle.fugue.specs.Archive.{Admits, Admissible}
-use Rattle.fugue.specs.Placements.{Placement, inserted, deleted, beyond, nodes, targets, visible, attachmentAfter, placement, placements, seen, placementIn, characters, textAt, text}
+use Rattle.fugue.specs.Placements.{Placement, inserted, deleted, beyond, nodes, targets, visible, attachment_after, placement, placements, seen, placement_in, characters, text_at, text}
 use Rattle.fugue.proofs.Versions.{behind_irreflexive}
 use Rattle.fugue.proofs.Archived.{admissible_distinct, admissible_held}
-use Rattle.fugue.specs.Tree.{sorted, children, sequenceFrom, sequence}
+use Rattle.fugue.specs.Tree.{sorted, children, sequence_from, sequence}
 use Rattle.fugue.specs.Edits.{edit}
 use Rattle.fugue.proofs.examples.examples_are_computed.Goals as goal
 
@@ -27,8 +27,8 @@ module _ (before : Name → Name → Bool) (log : NewestFirst) (x : Name) (d : D
   abbrev first : NamedEvent
   first = record { name = x; deed = d; parents = [] }
 
-  none : inside (placementIn before log first) ≡ true → Admits before log first
-  none h = record { fresh = fresh; held = tt; few = omega arith; once = tt; apart = λ p q i j b. i; inside = not_beyond (placementIn before log first) h }
+  none : inside (placement_in before log first) ≡ true → Admits before log first
+  none h = record { fresh = fresh; held = tt; few = omega arith; once = tt; apart = λ p q i j b. i; inside = not_beyond (placement_in before log first) h }
 
   module _ (p : Name) (held : has (names log) p ≡ true) (a : Admissible before log) where
     abbrev next : NamedEvent
@@ -43,15 +43,15 @@ module _ (before : Name → Name → Bool) (log : NewestFirst) (x : Name) (d : D
         same_end : {r q s : Name} → r ≡ s → Behind log q r → Behind log q s
         same_end e b = rw e at b
 
-    one : inside (placementIn before log next) ≡ true → Admits before log next
-    one h = record { fresh = fresh; held = (held, tt); few = omega arith; once = (tt, tt); apart = loop; inside = not_beyond (placementIn before log next) h }
+    one : inside (placement_in before log next) ≡ true → Admits before log next
+    one h = record { fresh = fresh; held = (held, tt); few = omega arith; once = (tt, tt); apart = loop; inside = not_beyond (placement_in before log next) h }
 
 admit : (before : Name → Name → Bool) (log : NewestFirst) (x : Name) (d : Deed) (p : Name) → has (names log) x ≡ false → has (names log) p ≡ true
-    → inside (placementIn before log (record { name = x; deed = d; parents = p ∷ [] })) ≡ true → Admissible before log → Admissible before (record { name = x; deed = d; parents = p ∷ [] } ∷ log)
+    → inside (placement_in before log (record { name = x; deed = d; parents = p ∷ [] })) ≡ true → Admissible before log → Admissible before (record { name = x; deed = d; parents = p ∷ [] } ∷ log)
 admit before log x d p f h i a = (one before log x d f p h a i, a)
 
 pub returns : goal.returns
-unfolding inside version sorted children sequenceFrom sequence nodes targets visible attachmentAfter placement placements seen placementIn characters textAt text edit
+unfolding inside version sorted children sequence_from sequence nodes targets visible attachment_after placement placements seen placement_in characters text_at text edit
 returns c = record {
   nothing = refl;
   one = refl;
