@@ -1,5 +1,5 @@
 -- What the archive order of a store's events is, in the cells of a work list.
---     in_order         the named events of a list of event numbers
+--     in_order        the named events of a list of event numbers
 --     Archived        the cells hold the archive order, and each event's archive number
 --     ArchiveAnswer   the answer of the call that computes it
 use Rattle.std.specs.Prelude.{◌≡◌, ℕ, ◌+◌, ◌*◌, ◌<◌, ◌≤◌, Bool, ◌⊎◌, List, [], ◌∷◌, length, take, Some, None, Ok, Err, Option, Result, slice_index}

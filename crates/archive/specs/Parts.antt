@@ -1,11 +1,11 @@
 -- The work list: four parts, each with one cell for each event that there is room for.
 --     get_or cells i        the event that is written as number i
---     number_of            the archive number of an event
+--     number_of             the archive number of an event
 --     first_of, behind_of   the first event that waits at an event, and the one that waits behind an event
---     none                stands for no event and no number
---     Open, Done          the event is not written; it is
---     ReadyAt             the event is not written and its parents are
---     Chain               the events that wait in a line, from the first
+--     none                  stands for no event and no number
+--     Open, Done            the event is not written; it is
+--     ReadyAt               the event is not written and its parents are
+--     Chain                 the events that wait in a line, from the first
 use Rattle.std.specs.Prelude.{◌≡◌, ℕ, ◌+◌, ◌*◌, ◌<◌, ◌≤◌, List, [], ◌∷◌, length, Some, slice_index}
 use Rattle.events.specs.Parts.{StoredEvent}
 use Rattle.stores.specs.Questions.{parent_at}

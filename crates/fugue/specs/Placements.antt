@@ -5,8 +5,8 @@
 --     LeftOrigin           the node that an insert comes after, or the root
 --     placement            of a deed, by the placed events that its author saw
 --     placements, seen     of all events of a log, newest first; of those of a version
---     placement_in          of an event that is new to a log
---     tree_at, text_at       tree and text of a version; tree and text: of all events held
+--     placement_in         of an event that is new to a log
+--     tree_at, text_at     tree and text of a version; tree and text: of all events held
 use Rattle.std.specs.Prelude.{◌∷◌}
 use Rattle.fugue.specs.Vocabulary.{ℕ, zero, suc, Bool, cond, not, List, [], map, nth, Option, Some, mapped, value_or, kept_by, joined, Name, Character, Deed, NamedEvent}
 use Rattle.events.specs.declared.deed.Deed.TheVariants.{Insert, Delete}

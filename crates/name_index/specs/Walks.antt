@@ -1,8 +1,8 @@
 -- The tree of names: what a walk for a name is, and what every index keeps.
 --     turn_of  bit d of a name
 --     link_at  the link of a node for a bit
---     place   the node at which the walk for a name stands after d steps
---     Sound   what holds of the nodes of every index
+--     place    the node at which the walk for a name stands after d steps
+--     Sound    what holds of the nodes of every index
 use Rattle.std.specs.Prelude.{◌≡◌, ℕ, zero, suc, ◌-◌, ◌/◌, ◌%◌, ◌^◌, ◌<◌, Bool, true, false, cond, List, [], ◌∷◌, ◌++◌, map, length, Some, None, Option, ◌==◌, nat_lt, slice_index_or, slice_set}
 use Rattle.std.specs.List.{slice_get}
 use Rattle.events.specs.declared.name.Name.{Name}

@@ -2,7 +2,7 @@
 --     Origin p q     q is the root, or the right of a node that passes
 --     behind q s     the nodes of a sequence after the left origin
 --     front q s      the nodes up to it
---     new_node        the node of a name, an attachment and a character
+--     new_node       the node of a name, an attachment and a character
 use Rattle.std.specs.Prelude.{◌≡◌, Bool, true, cond, List, [], ◌∷◌}
 use Rattle.events.specs.declared.name.Name.{Name}
 use Rattle.events.specs.declared.character.Character.{Character}

@@ -1,6 +1,6 @@
 -- How often the events of a version touch a character: once by its insert, and once by each delete of it.
 --     touches       a placement is that of the character's node, or strikes it
---     state_in       the state of a character among placed events: how many of them touch it
+--     state_in      the state of a character among placed events: how many of them touch it
 --     StatesTell    what states say of a version
 use Rattle.std.specs.Prelude.{◌≡◌, ℕ, Bool, true, false, not, ◌&&◌, List, length, filter, ◌==◌, nat_lt}
 use Rattle.events.specs.declared.name.Name.{Name}
