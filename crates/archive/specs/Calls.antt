@@ -21,5 +21,5 @@ Awaited events room cells e None = (k p : ℕ) → parent_at events e k ≡ Some
 
 -- the event e, which was in hand, is in the queue or in a line; nothing else changed but the head of that line
 pub record Placed (before : Name → Name → Bool) (events : List StoredEvent) (room e : ℕ) (cells : List ℕ) (queue : List Name) (len : ℕ) (cells' : List ℕ) (queue' : List Name) (len' : ℕ) : Type 0 where
-  pub behind : (v : ℕ) → (v ≢ e) → v < room → behind_of room cells' v ≡ behind_of room cells v
+  pub behind : (v : ℕ) → v ≢ e → v < room → behind_of room cells' v ≡ behind_of room cells v
   pub settles : (lines : ℕ → List ℕ) (hand : List ℕ) → Queue before events queue len → Waiting events room cells (take len queue) lines (e ∷ hand) → ((lines' : ℕ → List ℕ) × Waiting events room cells' (take len' queue') lines' hand) × Queue before events queue' len'

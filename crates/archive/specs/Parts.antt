@@ -1,5 +1,5 @@
 -- The work list: four parts, each with one cell for each event that there is room for.
---     get_or cells i        the event that is written as number i
+--     slice_index cells i   the event that is written as number i
 --     number_of             the archive number of an event
 --     first_of, behind_of   the first event that waits at an event, and the one that waits behind an event
 --     none                  stands for no event and no number

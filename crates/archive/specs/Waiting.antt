@@ -13,7 +13,7 @@ pub record Waiting (events : List StoredEvent) (room : ℕ) (cells : List ℕ) (
   pub ready : (x : Name) → 1 ≤ times_named queue x → (w : ℕ) × (name_at events w ≡ Some x) × ReadyAt events room cells w
   pub links : (p : ℕ) → p < length events → Open events room cells p → Chain room cells (first_of room cells p) (lines p)
   pub waits : (p w : ℕ) → 1 ≤ times_numbered (lines p) w → (p < length events) × Open events room cells p × (w < length events) × Open events room cells w × ((k : ℕ) × (parent_at events w k ≡ Some p))
-  pub apart : (p q w : ℕ) → (p ≢ q) → times_numbered (lines p) w + times_numbered (lines q) w ≤ 1
+  pub apart : (p q w : ℕ) → p ≢ q → times_numbered (lines p) w + times_numbered (lines q) w ≤ 1
   pub single : (p w : ℕ) → times_numbered hand w + times_numbered (lines p) w ≤ 1
   pub hands : (w : ℕ) → 1 ≤ times_numbered hand w → (w < length events) × Open events room cells w × ((x : Name) → name_at events w ≡ Some x → times_named queue x ≡ 0)
   pub cover : (w : ℕ) (x : Name) → name_at events w ≡ Some x → Open events room cells w → (1 ≤ times_named queue x) ⊎ ((1 ≤ times_numbered hand w) ⊎ ((p : ℕ) × (1 ≤ times_numbered (lines p) w)))

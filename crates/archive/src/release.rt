@@ -18,7 +18,7 @@ pub(crate) fn start<S: EventStore, O: SiblingOrder>(
     work: &mut [u32],
     names: &mut [Name],
 ) -> usize
-    requires store_in_bounds { (4 * S.EventStore.room store.now ≤ length work.old) × (length (S.EventStore.events store.now) ≤ length names.old) }
+    requires sized { (4 * S.EventStore.room store.now ≤ length work.old) × (length (S.EventStore.events store.now) ≤ length names.old) }
     requires clear { Cleared work.old (S.EventStore.room store.now) (length (S.EventStore.events store.now)) }
     ensures kept { take (2 * S.EventStore.room store.now) work.new ≡ take (2 * S.EventStore.room store.now) work.old }
     ensures queue { Queue O.SiblingOrder.before (S.EventStore.events store.now) names.new result }
@@ -40,7 +40,7 @@ pub(crate) fn release<S: EventStore, O: SiblingOrder>(
     len: usize,
     e: usize,
 ) -> usize
-    requires store_in_bounds { (4 * S.EventStore.room store.now ≤ length work.old) × (e < length (S.EventStore.events store.now)) }
+    requires sized { (4 * S.EventStore.room store.now ≤ length work.old) × (e < length (S.EventStore.events store.now)) }
     requires queue { Queue O.SiblingOrder.before (S.EventStore.events store.now) names.old len }
     requires line { Handed (S.EventStore.events store.now) (S.EventStore.room store.now) work.old names.old len (first_of (S.EventStore.room store.now) work.old e) }
     ensures kept { take (2 * S.EventStore.room store.now) work.new ≡ take (2 * S.EventStore.room store.now) work.old }
@@ -66,7 +66,7 @@ pub(crate) fn write_all<S: EventStore, O: SiblingOrder>(
     names: &mut [Name],
     len: usize,
 ) -> usize
-    requires store_in_bounds { 4 * S.EventStore.room store.now ≤ length work.old }
+    requires sized { 4 * S.EventStore.room store.now ≤ length work.old }
     requires clear { AllOpen (S.EventStore.events store.now) (S.EventStore.room store.now) work.old }
     requires queue { Queue O.SiblingOrder.before (S.EventStore.events store.now) names.old len }
     requires settled { Settled (S.EventStore.events store.now) (S.EventStore.room store.now) work.old names.old len }

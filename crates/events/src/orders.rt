@@ -26,7 +26,7 @@ pub trait SiblingOrder {
 
     ghost transitive: { (a b c : Name) → before a b ≡ true → before b c ≡ true → before a c ≡ true };
 
-    ghost total: { (a b : Name) → (a ≢ b) → before a b ≡ not (before b a) };
+    ghost total: { (a b : Name) → a ≢ b → before a b ≡ not (before b a) };
 
     ghost small: { kind < 16 };
 }

@@ -15,7 +15,7 @@ has (y ∷ ys) x = same y x || has ys x
 pub record Ordered (before : Name → Name → Bool) : Type 0 where
   pub irreflexive : (a : Name) → before a a ≡ false
   pub transitive : (a b c : Name) → before a b ≡ true → before b c ≡ true → before a c ≡ true
-  pub total : (a b : Name) → (a ≢ b) → before a b ≡ not (before b a)
+  pub total : (a b : Name) → a ≢ b → before a b ≡ not (before b a)
 
 infix 30 ◌∈◌
 -- x is a member of the list

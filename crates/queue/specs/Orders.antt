@@ -5,4 +5,4 @@ use Rattle.std.specs.Prelude.{◌≡◌, Bool, true, false, not, ◌≢◌}
 pub record Total {X : Type 0} (first : X → X → Bool) : Type 0 where
   pub irreflexive : (a : X) → first a a ≡ false
   pub transitive : (a b c : X) → first a b ≡ true → first b c ≡ true → first a c ≡ true
-  pub total : (a b : X) → (a ≢ b) → first a b ≡ not (first b a)
+  pub total : (a b : X) → a ≢ b → first a b ≡ not (first b a)

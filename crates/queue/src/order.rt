@@ -13,7 +13,7 @@ pub trait TotalOrder<T> {
 
     ghost transitive: { (a b c : T) → first a b ≡ true → first b c ≡ true → first a c ≡ true };
 
-    ghost total: { (a b : T) → (a ≢ b) → first a b ≡ not (first b a) };
+    ghost total: { (a b : T) → a ≢ b → first a b ≡ not (first b a) };
 }
 
 // Event numbers, the largest first.

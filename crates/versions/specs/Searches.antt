@@ -66,7 +66,7 @@ pub record Taken (w : List ℕ) (s : Search) (v : List ℕ) (r : Search) (e m : 
 pub record Written (w out : List ℕ) (s : Search) (e m : ℕ) (v new : List ℕ) (r : Search) : Type 0 where
   pub first : m ≡ 1 → (v ≡ w) × (new ≡ slice_set out s.first e) × (r ≡ record { room = s.room; seen = s.seen; queued = s.queued; pending = s.pending; first = s.first + 1; second = s.second })
   pub second : m ≡ 2 → (v ≡ slice_set w (s.room - 1 - s.second) e) × (new ≡ out) × (r ≡ record { room = s.room; seen = s.seen; queued = s.queued; pending = s.pending; first = s.first; second = s.second + 1 })
-  pub neither : (m ≢ 1) → (m ≢ 2) → (v ≡ w) × (new ≡ out) × (r ≡ s)
+  pub neither : m ≢ 1 → m ≢ 2 → (v ≡ w) × (new ≡ out) × (r ≡ s)
 
 pub record Knows (es : List StoredEvent) (heads : List ℕ) (other : ℕ) (m : ℕ → ℕ) (bound : ℕ) : Type 0 where
   pub sound : (x : ℕ) → Marked other (m x) → InVersion es heads x

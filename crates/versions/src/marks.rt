@@ -1,7 +1,7 @@
 //! Marks: in which of two versions an event is known to be.
 ghost use Rattle.std.specs.Prelude.{◌≡◌, ℕ, ◌*◌, ◌<◌, ◌≤◌, length, ◌≢◌};
-ghost use Rattle.versions.specs.Marks.{one_sided, join as joinMarks};
-ghost use Rattle.versions.specs.Searches.{Listed, Noted, Queued, marks as marksOf};
+ghost use Rattle.versions.specs.Marks.{one_sided, join as join_marks};
+ghost use Rattle.versions.specs.Searches.{Listed, Noted, Queued, marks as marks_of};
 
 use crate::search::Search;
 use queue::heap::push;
@@ -14,7 +14,7 @@ pub(crate) const SECOND: u32 = 2;
 
 // The mark of what two marks say, the second not 0.
 fn join(old: u32, mark: u32) -> u32
-    ensures answer { result ≡ joinMarks old mark }
+    ensures answer { result ≡ join_marks old mark }
 {
     if old == 0 {
         mark
@@ -39,7 +39,7 @@ pub(crate) fn alone(mark: u32) -> usize
 // The mark of an event, 0 for none.
 pub(crate) fn mark_of(work: &[u32], s: Search, event: usize) -> u32
     requires { (Listed work.now s) × (event < s.room) }
-    ensures answer { result ≡ marksOf work.now s event }
+    ensures answer { result ≡ marks_of work.now s event }
 {
     let place = work[s.room + event] as usize;
     if place < s.seen && work[2 * s.room + place] as usize == event {
@@ -53,7 +53,7 @@ pub(crate) fn mark_of(work: &[u32], s: Search, event: usize) -> u32
 pub(crate) fn note(work: &mut [u32], s: Search, event: usize, mark: u32) -> Search
     requires listed { Listed work.old s }
     requires queued { (bound : ℕ) × (event < bound) × Queued work.old s bound }
-    requires marked { (event < s.room) × ((mark ≢ 0)) }
+    requires marked { (event < s.room) × (mark ≢ 0) }
     ensures after { Noted (λ x. x ≡ event) mark work.old s work.new result }
 {
     let old = mark_of(work, s, event);

@@ -32,7 +32,7 @@ pub(crate) fn note_parents<S: EventStore>(
 ) -> Search
     requires listed { Listed work.old s }
     requires queued { Queued work.old s event }
-    requires marked { (event < s.room) × ((mark ≢ 0)) }
+    requires marked { (event < s.room) × (mark ≢ 0) }
     ensures after { Noted (Parent (S.EventStore.events store.now) event) mark work.old s work.new result }
 {
     let mut noted = s;

@@ -13,7 +13,7 @@ write_all-requires g c =
     let eq = c.capacity-room.ensures.answer in
     let n = c.count-count.ensures.answer in
     record {
-      store_in_bounds = omega (arith, eq, c.if-work-room.false, c.clear.auto.work, c.start-len.auto.work);
+      sized = omega (arith, eq, c.if-work-room.false, c.clear.auto.work, c.start-len.auto.work);
       clear = λ e l.
           let inside = laws.within s in
           let small = laws.small s in

@@ -25,7 +25,7 @@ pub bounds-work-room-in-loop-w : goal.bounds-work-room-in-loop-w
 bounds-work-room-in-loop-w g c =
     let s = c.args.store.now in
     let laws = g.S.EventStore.laws in
-    omega (arith, c.loop-w.invariant.3 c.loop-w-test.true, laws.within s, laws.small s, c.capacity-room.ensures.answer, c.loop-w.auto.work, c.requires.store_in_bounds)
+    omega (arith, c.loop-w.invariant.3 c.loop-w-test.true, laws.within s, laws.small s, c.capacity-room.ensures.answer, c.loop-w.auto.work, c.requires.sized)
 
 pub overflow_cast-w : goal.overflow_cast-w
 overflow_cast-w g c =
@@ -34,7 +34,7 @@ overflow_cast-w g c =
     omega (arith, c.loop-w.invariant.3 c.loop-w-test.true, laws.within s, laws.small s)
 
 pub place-queued-requires : goal.place-queued-requires
-place-queued-requires g c = (omega (arith, c.loop-w.auto.work, c.requires.store_in_bounds), c.loop-w.invariant.3 c.loop-w-test.true)
+place-queued-requires g c = (omega (arith, c.loop-w.auto.work, c.requires.sized), c.loop-w.invariant.3 c.loop-w-test.true)
 
 pub loop-w-init : goal.loop-w-init
 loop-w-init g c =

@@ -15,7 +15,7 @@ loop-e-init g c =
         subst (λ m. Waiting es room c.args.work.now [] (λ p. []) (up_from 0 m)) n
             (all_in_hand es (laws.sound s) room (laws.within s) (laws.small s) c.args.work.now c.requires.clear),
       ),
-      record { within = omega arith; fits = c.requires.store_in_bounds.1; heaped = λ k d a b. absurd (omega arith) },
+      record { within = omega arith; fits = c.requires.sized.1; heaped = λ k d a b. absurd (omega arith) },
       refl,
     )
 

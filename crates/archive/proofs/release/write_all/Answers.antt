@@ -16,7 +16,7 @@ turn g c =
     let laws = g.S.EventStore.laws in
     let now = c.loop-name.invariant in
     step g.O.SiblingOrder.before g.met.O.SiblingOrder.total (g.S.EventStore.events s) (laws.sound s) (g.S.EventStore.room s) (laws.within s)
-    c.loop-name.work (omega (arith, c.loop-name.auto.work, c.requires.store_in_bounds)) c.loop-name.written now.0
+    c.loop-name.work (omega (arith, c.loop-name.auto.work, c.requires.sized)) c.loop-name.written now.0
     c.loop-name.names c.pop.new.cells c.loop-name.queued now.1 now.2 c.pop.auto.cells
     c.in-Some.name c.in-Some.ensures.after c.in-Some-number_of.number c.in-Some-number_of.ensures.answer
 
@@ -47,7 +47,7 @@ pub bounds-work-written : goal.bounds-work-written
 bounds-work-written g c =
     let s = c.args.store.now in
     let laws = g.S.EventStore.laws in
-    omega (arith, (turn g c).less, laws.within s, c.loop-name.auto.work, c.requires.store_in_bounds)
+    omega (arith, (turn g c).less, laws.within s, c.loop-name.auto.work, c.requires.sized)
 
 pub overflow_cast-work-in-Some : goal.overflow_cast-work-in-Some
 overflow_cast-work-in-Some g c =
@@ -59,7 +59,7 @@ pub bounds-work-room : goal.bounds-work-room
 bounds-work-room g c =
     let s = c.args.store.now in
     let laws = g.S.EventStore.laws in
-    omega (arith, (turn g c).below, laws.within s, c.loop-name.auto.work, c.requires.store_in_bounds, c.capacity-room.ensures.answer, length-set c.loop-name.work c.loop-name.written c.in-Some-number_of.number)
+    omega (arith, (turn g c).below, laws.within s, c.loop-name.auto.work, c.requires.sized, c.capacity-room.ensures.answer, length-set c.loop-name.work c.loop-name.written c.in-Some-number_of.number)
 
 pub release-queued-requires : goal.release-queued-requires
 release-queued-requires g c =
@@ -74,7 +74,7 @@ release-queued-requires g c =
     let a = length-set cells k e in
     let b = length-set (set cells k e) (c.capacity-room.result + e) k in
     record {
-      store_in_bounds = (omega (arith, a, b, c.loop-name.auto.work, c.requires.store_in_bounds), t.below);
+      sized = (omega (arith, a, b, c.loop-name.auto.work, c.requires.sized), t.below);
       queue = t.queue;
       line = subst (λ r. Handed es room (set (set cells k e) (r + e) k) c.pop.new.cells (c.loop-name.queued - 1) (first_of room (set (set cells k e) (r + e) k) e)) (sym eq) t.handed;
     }
@@ -118,7 +118,7 @@ returns g c =
     let before = g.O.SiblingOrder.before in
     let now = c.loop-name.invariant in
     let cells = c.loop-name.work in
-    let room4 : 4 * room ≤ length cells = omega (arith, c.loop-name.auto.work, c.requires.store_in_bounds) in
+    let room4 : 4 * room ≤ length cells = omega (arith, c.loop-name.auto.work, c.requires.sized) in
     let z = empty_queue c.loop-name.names c.loop-name.queued now.2.within c.in_default.ensures.answer in
     let was = subst (λ m. Waiting es room cells (take m c.loop-name.names) now.1.0 []) z now.1.1 in
     record {
