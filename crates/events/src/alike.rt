@@ -13,20 +13,9 @@ pub fn same_name(a: Name, b: Name) -> bool
 }
 
 // Whether two deeds are the same deed.
-pub fn same_deed(a: Deed, b: Deed) -> bool
-    ensures answer { (result ≡ true → a ≡ b) × (a ≡ b → result ≡ true) }
+#[tactic(auto, using(crate::proofs::Compared::same_deeds))]
+pub fn same_deed(deed: Deed, other: Deed) -> bool
+    ensures answer { (result ≡ true → deed ≡ other) × (deed ≡ other → result ≡ true) }
 {
-    match a {
-        Deed::Insert { character, at } => match b {
-            Deed::Insert {
-                character: other,
-                at: place,
-            } => character.code == other.code && at.at == place.at,
-            Deed::Delete { .. } => false,
-        },
-        Deed::Delete { at } => match b {
-            Deed::Insert { .. } => false,
-            Deed::Delete { at: place } => at.at == place.at,
-        },
-    }
+    deed == other
 }

@@ -1,7 +1,7 @@
 //! Why a call is refused, in three layers; each case has what its place is told from.
 
 // What is wrong with the bytes of a file, as words.
-#[derive(Clone, Copy, PartialEq, Eq)]
+#[derive(Clone, Copy, Debug, PartialEq, Eq)]
 pub enum FileFault {
     // the bytes are not a whole file: how many whole words there are
     Length { words: usize },
@@ -14,7 +14,7 @@ pub enum FileFault {
 }
 
 // What is wrong with an event, by the number that it has or would get; of a head asked for, its place.
-#[derive(Clone, Copy, PartialEq, Eq)]
+#[derive(Clone, Copy, Debug, PartialEq, Eq)]
 pub enum EventFault {
     File(FileFault),
     Name { event: usize },
@@ -26,7 +26,7 @@ pub enum EventFault {
 }
 
 // Why a book refuses a call.
-#[derive(Clone, Copy, PartialEq, Eq)]
+#[derive(Clone, Copy, Debug, PartialEq, Eq)]
 pub enum BookFault {
     Event(EventFault),
     StoreFull { event: usize },
@@ -37,7 +37,7 @@ pub enum BookFault {
 }
 
 // The part of the program that refuses.
-#[derive(Clone, Copy, PartialEq, Eq)]
+#[derive(Clone, Copy, Debug, PartialEq, Eq)]
 pub enum Layer {
     File,
     Event,

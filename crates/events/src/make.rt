@@ -15,13 +15,10 @@ impl Name {
     pub fn new(author: u32, number: u32) -> Result<Name, EventFault>
         ensures answer { NameMade author number result }
     {
-        if author > 65_535 || number > 268_435_455 {
-            return Err(EventFault::Name { event: 0 });
+        match u16::try_from(author) {
+            Ok(author) if number <= 268_435_455 => Ok(Name { author, number }),
+            _ => Err(EventFault::Name { event: 0 }),
         }
-        Ok(Name {
-            author: author as u16,
-            number,
-        })
     }
 }
 
@@ -30,10 +27,10 @@ impl Character {
     pub fn new(code: u32) -> Result<Character, EventFault>
         ensures answer { CharacterMade code result }
     {
-        if code >= 0x11_0000 || (code >= 0xd800 && code < 0xe000) {
-            return Err(EventFault::Character { event: 0 });
+        match char::from_u32(code) {
+            Some(_) => Ok(Character { code }),
+            None => Err(EventFault::Character { event: 0 }),
         }
-        Ok(Character { code })
     }
 }
 
@@ -54,16 +51,15 @@ impl Parents {
     pub fn new(numbers: &[u16]) -> Option<Parents>
         ensures answer { ParentsMade numbers.now result }
     {
-        if numbers.len() > 4 {
+        let count = numbers.len();
+        if count > 4 {
             return None;
         }
         let mut four = [0u16; 4];
-        for i in 0..numbers.len() {
-            four[i] = numbers[i];
-        }
+        four[..count].copy_from_slice(numbers);
         Some(Parents {
             numbers: four,
-            count: numbers.len(),
+            count,
         })
     }
 
@@ -81,16 +77,11 @@ impl Parents {
     pub fn push(&mut self, number: u16) -> bool
         ensures after { ParentPushed (numbers_of self.old) number (numbers_of self.new) result }
     {
-        let at = self.count;
-        if at >= 4 {
+        if self.count >= 4 {
             return false;
         }
-        let mut four = self.numbers;
-        four[at] = number;
-        *self = Parents {
-            numbers: four,
-            count: at + 1,
-        };
+        self.numbers[self.count] = number;
+        self.count += 1;
         true
     }
 
@@ -101,14 +92,17 @@ impl Parents {
         self.count
     }
 
+    // All of them, in their order.
+    pub fn as_slice(&self) -> &[u16]
+        ensures answer { result.now ≡ numbers_of self.now }
+    {
+        &self.numbers[..self.count]
+    }
+
     // Parent k, or nothing past the last.
     pub fn get(&self, k: usize) -> Option<u16>
         ensures answer { result ≡ slice_get (numbers_of self.now) k }
     {
-        if k < self.count {
-            Some(self.numbers[k])
-        } else {
-            None
-        }
+        self.as_slice().get(k).copied()
     }
 }

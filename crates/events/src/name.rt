@@ -1,7 +1,7 @@
 //! What names an event: its author and the author's number for it.
 ghost use Rattle.std.specs.Prelude.{◌^◌, ◌<◌};
 
-#[derive(Clone, Copy, PartialEq, Eq)]
+#[derive(Clone, Copy, Debug, PartialEq, Eq, PartialOrd, Ord)]
 pub struct Name {
     pub author: u16,
     pub number: u32,

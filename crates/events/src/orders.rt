@@ -53,11 +53,7 @@ impl SiblingOrder for AuthorFirst {
     ghost small = { Prim.search rules };
 
     fn precedes(&self, a: Name, b: Name) -> bool {
-        if a.author == b.author {
-            a.number < b.number
-        } else {
-            a.author < b.author
-        }
+        a < b
     }
 
     fn type_number(&self) -> u8 {
@@ -79,11 +75,7 @@ impl SiblingOrder for NumberFirst {
     ghost small = { Prim.search rules };
 
     fn precedes(&self, a: Name, b: Name) -> bool {
-        if a.number == b.number {
-            a.author < b.author
-        } else {
-            a.number < b.number
-        }
+        (a.number, a.author) < (b.number, b.author)
     }
 
     fn type_number(&self) -> u8 {

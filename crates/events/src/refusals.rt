@@ -53,12 +53,7 @@ impl FileFault {
     pub(crate) fn layer(&self) -> Layer
         ensures answer { result ≡ layer_of_file self.now }
     {
-        match self {
-            FileFault::Length { .. } => Layer::File,
-            FileFault::Head => Layer::File,
-            FileFault::Kind { .. } => Layer::File,
-            FileFault::End { .. } => Layer::File,
-        }
+        Layer::File
     }
 
     // Where.
@@ -68,8 +63,7 @@ impl FileFault {
         match self {
             FileFault::Length { words } => *words,
             FileFault::Head => 0,
-            FileFault::Kind { word } => *word,
-            FileFault::End { word } => *word,
+            FileFault::Kind { word } | FileFault::End { word } => *word,
         }
     }
 }
@@ -111,12 +105,12 @@ impl EventFault {
     {
         match self {
             EventFault::File(f) => f.layer(),
-            EventFault::Name { .. } => Layer::Event,
-            EventFault::Character { .. } => Layer::Event,
-            EventFault::Held { .. } => Layer::Event,
-            EventFault::Clash { .. } => Layer::Event,
-            EventFault::Unknown { .. } => Layer::Event,
-            EventFault::Parents { .. } => Layer::Event,
+            EventFault::Name { .. }
+            | EventFault::Character { .. }
+            | EventFault::Held { .. }
+            | EventFault::Clash { .. }
+            | EventFault::Unknown { .. }
+            | EventFault::Parents { .. } => Layer::Event,
         }
     }
 
@@ -126,12 +120,12 @@ impl EventFault {
     {
         match self {
             EventFault::File(f) => f.place(),
-            EventFault::Name { event } => *event,
-            EventFault::Character { event } => *event,
-            EventFault::Held { event } => *event,
-            EventFault::Clash { event } => *event,
-            EventFault::Unknown { event } => *event,
-            EventFault::Parents { event } => *event,
+            EventFault::Name { event }
+            | EventFault::Character { event }
+            | EventFault::Held { event }
+            | EventFault::Clash { event }
+            | EventFault::Unknown { event }
+            | EventFault::Parents { event } => *event,
         }
     }
 }
@@ -172,9 +166,8 @@ impl BookFault {
         match self {
             BookFault::Event(f) => f.layer(),
             BookFault::StoreFull { .. } => Layer::Store,
-            BookFault::Behind { .. } => Layer::Walk,
-            BookFault::Beyond { .. } => Layer::Walk,
-            BookFault::IndexFull { .. } => Layer::Walk,
+            BookFault::Behind { .. } | BookFault::Beyond { .. } | BookFault::IndexFull { .. } =>
+                Layer::Walk,
             BookFault::Short { .. } => Layer::Caller,
         }
     }
@@ -185,10 +178,10 @@ impl BookFault {
     {
         match self {
             BookFault::Event(f) => f.place(),
-            BookFault::StoreFull { event } => *event,
-            BookFault::Behind { event } => *event,
-            BookFault::Beyond { event } => *event,
-            BookFault::IndexFull { event } => *event,
+            BookFault::StoreFull { event }
+            | BookFault::Behind { event }
+            | BookFault::Beyond { event }
+            | BookFault::IndexFull { event } => *event,
             BookFault::Short { needed } => *needed,
         }
     }
