@@ -9,113 +9,81 @@ ghost use Rattle.walk_theory.specs.Standing.{ListsTheSequence, StandsAtFirst, Ch
 ghost use Rattle.walk_theory.specs.Indexed.{ShowsVersions, ShowsTheText, HoldsAtFirst, HoldsAtCheckpoint, GoesOn};
 
 // Beside a new node, any node lies as its top at the new node's attachment does; without one, as it lies beside the owner.
-pub fn top_decides() -> u8
+pub fn top_decides()
     ensures { TopDecides }
-{
-    0
-}
+{}
 
 // The climb and the scan find the attachment and the place of a new node.
-pub fn search_finds_the_place() -> u8
+pub fn search_finds_the_place()
     ensures { SearchFindsThePlace }
-{
-    0
-}
+{}
 
 // Counts of what hangs where give the same, and the scan's test turns once.
-pub fn counts_suffice() -> u8
+pub fn counts_suffice()
     ensures { CountsSuffice }
-{
-    0
-}
+{}
 
 // Trees that grow over two bases that agree, agree.
-pub fn trees_grow_alike() -> u8
+pub fn trees_grow_alike()
     ensures { TreesGrowAlike }
-{
-    0
-}
+{}
 
 // A version gives a left origin one attachment in both trees.
-pub fn home_is_one() -> u8
+pub fn home_is_one()
     ensures { HomeIsOne }
-{
-    0
-}
+{}
 
 // A new node keeps the agreement.
-pub fn new_nodes_agree() -> u8
+pub fn new_nodes_agree()
     ensures { NewNodesAgree }
-{
-    0
-}
+{}
 
 // The index lists the sequence, less what was dropped.
-pub fn lists_the_sequence() -> u8
+pub fn lists_the_sequence()
     ensures { ListsTheSequence }
-{
-    0
-}
+{}
 
 // With nothing closed off the index lists the sequence.
-pub fn stands_at_first() -> u8
+pub fn stands_at_first()
     ensures { StandsAtFirst }
-{
-    0
-}
+{}
 
 // A checkpoint keeps a part of the list, in a chain.
-pub fn checkpoint_stands() -> u8
+pub fn checkpoint_stands()
     ensures { CheckpointStands }
-{
-    0
-}
+{}
 
 // A new event goes into the list where the search puts it.
-pub fn walk_stands() -> u8
+pub fn walk_stands()
     ensures { WalkStands }
-{
-    0
-}
+{}
 
 // The index shows every version that has all closed-off events.
-pub fn shows_versions() -> u8
+pub fn shows_versions()
     ensures { ShowsVersions }
-{
-    0
-}
+{}
 
 // The index shows the text of all events.
-pub fn shows_the_text() -> u8
+pub fn shows_the_text()
     ensures { ShowsTheText }
-{
-    0
-}
+{}
 
 // With nothing closed off, the index of a log lists its sequence.
-pub fn holds_at_first() -> u8
+pub fn holds_at_first()
     ensures { HoldsAtFirst }
-{
-    0
-}
+{}
 
 // A checkpoint keeps what is in the text, and closes off all events.
-pub fn holds_at_checkpoint() -> u8
+pub fn holds_at_checkpoint()
     ensures { HoldsAtCheckpoint }
-{
-    0
-}
+{}
 
 // The index takes in every new event whose parents' version has all closed-off events, and its edit is counted in the list.
-pub fn goes_on() -> u8
+pub fn goes_on()
     ensures { GoesOn }
-{
-    0
-}
+{}
 
 // A version has a character where its state is above 0, and shows it where it is 1.
-pub fn states_tell() -> u8
+pub fn states_tell()
     ensures { StatesTell }
-{
-    0
-}
+{}
