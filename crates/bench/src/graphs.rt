@@ -6,17 +6,6 @@ use stores::{EventStore, MemoryStore};
 // How many events each graph has.
 pub const MANY: usize = 65_536;
 
-// How the events of a graph follow one another.
-#[derive(Clone, Copy)]
-pub enum Shape {
-    // each after the one before
-    Chain,
-    // four at a time with no parents, and then one that has seen the four
-    Merge,
-    // two lines of events, turn by turn
-    Branches,
-}
-
 // One more event by an author; what is refused is left out.
 fn put(store: &mut MemoryStore, author: u32, number: u32, parents: &[u16]) {
     let Ok(name) = Name::new(author, number) else {
@@ -31,8 +20,8 @@ fn put(store: &mut MemoryStore, author: u32, number: u32, parents: &[u16]) {
     let _ = store.append(name, Deed::Insert { character, at }, parents);
 }
 
-// Event n of a chain.
-fn put_chained(store: &mut MemoryStore, n: u16) {
+// Event n of a chain: each after the one before.
+pub fn put_chained(store: &mut MemoryStore, n: u16) {
     if n == 0 {
         put(store, 1, 0, &[]);
     } else {
@@ -40,8 +29,8 @@ fn put_chained(store: &mut MemoryStore, n: u16) {
     }
 }
 
-// Event n of merges of four.
-fn put_merged(store: &mut MemoryStore, n: u16) {
+// Event n of merges: four at a time with no parents, and then one that has seen the four.
+pub fn put_merged(store: &mut MemoryStore, n: u16) {
     if n % 5 == 4 {
         put(store, 1, n as u32, &[n - 4, n - 3, n - 2, n - 1]);
     } else {
@@ -49,8 +38,8 @@ fn put_merged(store: &mut MemoryStore, n: u16) {
     }
 }
 
-// Event n of two branches.
-fn put_branched(store: &mut MemoryStore, n: u16) {
+// Event n of two branches: two lines of events, turn by turn.
+pub fn put_branched(store: &mut MemoryStore, n: u16) {
     if n < 2 {
         put(store, n as u32 + 1, n as u32, &[]);
     } else {
@@ -58,15 +47,13 @@ fn put_branched(store: &mut MemoryStore, n: u16) {
     }
 }
 
-// A store that holds a graph.
-pub fn graph(heap: Global, shape: Shape) -> Result<MemoryStore, AllocError> {
+// A store that holds a graph, whose events are put into it in turn.
+pub fn graph<F: Fn(&mut MemoryStore, u16)>(heap: Global, put: F) -> Result<MemoryStore, AllocError>
+    requires { F.IsAlwaysCallable put }
+{
     let mut store = MemoryStore::with_capacity(heap, MANY)?;
     for n in 0..=u16::MAX {
-        match shape {
-            Shape::Chain => put_chained(&mut store, n),
-            Shape::Merge => put_merged(&mut store, n),
-            Shape::Branches => put_branched(&mut store, n),
-        }
+        put(&mut store, n);
     }
     Ok(store)
 }

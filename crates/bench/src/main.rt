@@ -6,7 +6,7 @@ mod graphs;
 use anyhow::anyhow;
 use archive::archive_order;
 use events::AuthorFirst;
-use graphs::{MANY, Shape, graph};
+use graphs::{MANY, graph, put_branched, put_chained, put_merged};
 use std::time::Instant;
 use stores::{EventStore, MemoryStore};
 use versions::difference;
@@ -20,9 +20,15 @@ fn report(rt: &HostRuntime, start: Instant, what: &str, count: usize) -> anyhow:
 }
 
 // A store with a graph.
-fn filled(rt: &HostRuntime, shape: Shape, what: &str) -> anyhow::Result<MemoryStore> {
+fn filled<F: Fn(&mut MemoryStore, u16)>(
+    rt: &HostRuntime,
+    put: F,
+    what: &str,
+) -> anyhow::Result<MemoryStore>
+    requires { F.IsAlwaysCallable put }
+{
     let start = Instant::now(rt)?;
-    let store = graph(rt.alloc(), shape)?;
+    let store = graph(rt.alloc(), put)?;
     report(rt, start, what, store.count())?;
     Ok(store)
 }
@@ -34,17 +40,13 @@ fn archived(
     work: &mut [u32],
     what: &str,
 ) -> anyhow::Result<()> {
-    let first = match store.name(0) {
-        Some(name) => name,
-        None => return Err(anyhow!("no events")),
-    };
+    let first = store.name(0).ok_or_else(|| anyhow!("no events"))?;
     let mut names = vec![in rt.alloc(); first; MANY]?;
     let start = Instant::now(rt)?;
-    let written = archive_order(store, &AuthorFirst, work, &mut names);
-    match written {
-        Ok(count) => report(rt, start, what, count),
-        Err(_) => Err(anyhow!("refused")),
-    }
+    let count = archive_order(store, &AuthorFirst, work, &mut names).map_err(|_| anyhow!(
+        "refused"
+    ))?;
+    report(rt, start, what, count)
 }
 
 // The difference of two versions, so many times.
@@ -60,17 +62,17 @@ fn differed(
     let start = Instant::now(rt)?;
     let mut all = 0usize;
     for _ in 0..times {
-        match difference(store, &[heads.0], &[heads.1], work, &mut out) {
-            Ok((first, second)) => all = all.saturating_add(first).saturating_add(second),
-            Err(_) => return Err(anyhow!("refused")),
-        }
+        let (first, second) = difference(store, &[heads.0], &[heads.1], work, &mut out).map_err(
+            |_| anyhow!("refused"),
+        )?;
+        all = all.saturating_add(first).saturating_add(second);
     }
     report(rt, start, what, all)
 }
 
 fn run(rt: &HostRuntime) -> anyhow::Result<()> {
     let mut work = vec![in rt.alloc(); 0u32; 4 * MANY]?;
-    let chain = filled(rt, Shape::Chain, "chain appended")?;
+    let chain = filled(rt, put_chained, "chain appended")?;
     archived(rt, &chain, &mut work, "chain archived")?;
     differed(
         rt,
@@ -80,9 +82,9 @@ fn run(rt: &HostRuntime) -> anyhow::Result<()> {
         &mut work,
         "chain, heads one apart, 65,536 times",
     )?;
-    let merge = filled(rt, Shape::Merge, "merges of four appended")?;
+    let merge = filled(rt, put_merged, "merges of four appended")?;
     archived(rt, &merge, &mut work, "merges of four archived")?;
-    let branches = filled(rt, Shape::Branches, "two branches appended")?;
+    let branches = filled(rt, put_branched, "two branches appended")?;
     archived(rt, &branches, &mut work, "two branches archived")?;
     differed(
         rt,

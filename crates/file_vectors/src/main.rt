@@ -3,25 +3,18 @@
 
 mod hex;
 
-use anyhow::anyhow;
-use filing::{answer_told, named_order};
+use anyhow::Context;
+use filing::answer_told;
 use hex::bytes_of;
 use std::alloc::Global;
 use std::fs;
 
 // Whether reading gives the answer of a line: order, bytes in hex and answer, with tabs between them.
 fn as_told(heap: Global, line: &str) -> anyhow::Result<bool> {
-    let Some((order, rest)) = line.split_once('\t') else {
-        return Err(anyhow!("a line has three columns"));
-    };
-    let Some((digits, answer)) = rest.split_once('\t') else {
-        return Err(anyhow!("a line has three columns"));
-    };
-    let Some(order) = named_order(order) else {
-        return Err(anyhow!("an order is author or number"));
-    };
+    let (order, rest) = line.split_once('\t').context("a line has three columns")?;
+    let (digits, answer) = rest.split_once('\t').context("a line has three columns")?;
     let bytes = bytes_of(heap, digits)?;
-    let said = answer_told(heap, bytes, order)?;
+    let said = answer_told(heap, bytes, order.parse()?)?;
     Ok(said.as_str() == answer)
 }
 

@@ -1,6 +1,7 @@
--- The type numbers of the two sibling orders, and which order a file's first byte names.
-use Rattle.std.specs.Prelude.{ℕ, ◌%◌, Bool, true, false, List, [], ◌∷◌, ◌==◌}
+-- The type numbers and the words of the two sibling orders, and which order a file's first byte names.
+use Rattle.std.specs.Prelude.{◌≡◌, ◌≢◌, ℕ, ◌%◌, Bool, true, false, List, [], ◌∷◌, ◌==◌, Result, MatchResult, codes}
 use Rattle.filing.specs.declared.order.Order.{Order}
+use Rattle.filing.specs.declared.order.UnknownOrder.{UnknownOrder}
 
 abbrev pub type_of : Order → ℕ
 type_of Order.Author = 0
@@ -14,3 +15,11 @@ order_by false = Order.Author
 abbrev pub own_order : List ℕ → Order
 own_order [] = Order.Author
 own_order (b ∷ bs) = order_by (b % 16 == 1)
+
+abbrev pub word_of : Order → List ℕ
+word_of Order.Author = codes "author"
+word_of Order.Number = codes "number"
+
+-- a word is read as the order that it names, and refused if it names none
+abbrev pub OrderNamed : List ℕ → Result Order UnknownOrder → Type 0
+OrderNamed word r = MatchResult r (λ o. word ≡ word_of o) (λ _. (o : Order) → word ≢ word_of o)

@@ -7,6 +7,6 @@ pub mod orders;
 pub mod told;
 
 pub use answers::{answer_told, read_for, refile_for};
-pub use order::Order;
-pub use orders::{named_order, own_order};
+pub use order::{Order, UnknownOrder};
+pub use orders::own_order;
 pub use told::event_told;

@@ -8,25 +8,8 @@ use crate::order::Order;
 pub fn own_order(bytes: &[u8]) -> Order
     ensures answer { result ≡ own_order bytes.now }
 {
-    match bytes {
-        [] => Order::Author,
-        [b, ..] => {
-            if *b % 16 == 1 {
-                Order::Number
-            } else {
-                Order::Author
-            }
-        }
-    }
-}
-
-// The order of a word, or nothing where it is none.
-pub fn named_order(word: &str) -> Option<Order> {
-    if word == "author" {
-        Some(Order::Author)
-    } else if word == "number" {
-        Some(Order::Number)
-    } else {
-        None
+    match bytes.first() {
+        Some(b) if *b % 16 == 1 => Order::Number,
+        _ => Order::Author,
     }
 }

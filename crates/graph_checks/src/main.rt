@@ -15,17 +15,9 @@ use versions::difference;
 
 // Whether the front of a list is two lists, one behind the other.
 fn in_front(cells: &[u32], first: &[u32], second: &[u32]) -> bool {
-    for (i, event) in first.iter().enumerate() {
-        if cells.get(i).copied() != Some(*event) {
-            return false;
-        }
-    }
-    for (i, event) in second.iter().enumerate() {
-        if cells.get(i.saturating_add(first.len())).copied() != Some(*event) {
-            return false;
-        }
-    }
-    true
+    cells
+        .strip_prefix(first)
+        .is_some_and(|rest| rest.starts_with(second))
 }
 
 // Whether a difference of two versions by chance is that of the reference.
@@ -43,10 +35,8 @@ fn differs_so(
     let two = slow::version(heap, store, &second)?;
     let left = slow::only(heap, &one, &two)?;
     let right = slow::only(heap, &two, &one)?;
-    match difference(store, &first, &second, work, out) {
-        Ok((a, b)) => Ok(a == left.len() && b == right.len() && in_front(out, &left, &right)),
-        Err(_) => Ok(false),
-    }
+    let answer = difference(store, &first, &second, work, out);
+    Ok(answer == Ok((left.len(), right.len())) && in_front(out, &left, &right))
 }
 
 // Whether the archive order is that of the reference.
@@ -56,10 +46,8 @@ fn archives_so(heap: Global, store: &MemoryStore, work: &mut [u32]) -> anyhow::R
     };
     let mut names = vec![in heap; some; store.count()]?;
     let order = slow::archive(heap, store)?;
-    match archive_order(store, &AuthorFirst, work, &mut names) {
-        Ok(count) => Ok(count == order.len() && in_front(work, &order, &[])),
-        Err(_) => Ok(false),
-    }
+    let answer = archive_order(store, &AuthorFirst, work, &mut names);
+    Ok(answer == Ok(order.len()) && in_front(work, &order, &[]))
 }
 
 fn run(rt: &HostRuntime) -> anyhow::Result<()> {

@@ -1,23 +1,22 @@
 //! The same answers the slow way: a flag for every event, and a look at all of them in every step.
-use events::{AuthorFirst, SiblingOrder};
 use std::alloc::{AllocError, Global};
 use stores::{EventStore, MemoryStore};
 
-fn set(flags: &mut Vec<bool>, n: usize) {
+fn set(flags: &mut [bool], n: usize) {
     if let Some(flag) = flags.get_mut(n) {
         *flag = true;
     }
 }
 
-fn is_set(flags: &Vec<bool>, n: usize) -> bool {
-    flags.get(n).copied().unwrap_or(false)
+fn is_set(flags: &[bool], n: usize) -> bool {
+    flags.get(n) == Some(&true)
 }
 
 // Flags the parents of event n.
-fn set_parents(store: &MemoryStore, flags: &mut Vec<bool>, n: usize) {
-    for k in 0..4 {
-        if let Some(parent) = store.parent(n, k) {
-            set(flags, parent as usize);
+fn set_parents(store: &MemoryStore, flags: &mut [bool], n: usize) {
+    if let Some(parents) = store.parents(n) {
+        for parent in parents.as_slice() {
+            set(flags, *parent as usize);
         }
     }
 }
@@ -37,10 +36,10 @@ pub fn version(heap: Global, store: &MemoryStore, heads: &[u16]) -> Result<Vec<b
 }
 
 // The events of the first version that are not in the second, the latest first.
-pub fn only(heap: Global, first: &Vec<bool>, second: &Vec<bool>) -> Result<Vec<u32>, AllocError> {
+pub fn only(heap: Global, first: &[bool], second: &[bool]) -> Result<Vec<u32>, AllocError> {
     let mut events = Vec::new(heap);
-    for n in (0..first.len()).rev() {
-        if is_set(first, n) && !is_set(second, n) {
+    for (n, (one, other)) in first.iter().zip(second).enumerate().rev() {
+        if *one && !*other {
             if let Ok(number) = u32::try_from(n) {
                 events.push(number)?;
             }
@@ -50,37 +49,20 @@ pub fn only(heap: Global, first: &Vec<bool>, second: &Vec<bool>) -> Result<Vec<u
 }
 
 // Whether every parent of event n is flagged.
-fn parents_set(store: &MemoryStore, flags: &Vec<bool>, n: usize) -> bool {
-    for k in 0..4 {
-        if let Some(parent) = store.parent(n, k) {
-            if !is_set(flags, parent as usize) {
-                return false;
-            }
-        }
-    }
-    true
+fn parents_set(store: &MemoryStore, flags: &[bool], n: usize) -> bool {
+    store.parents(n).is_none_or(|parents| {
+        parents
+            .as_slice()
+            .iter()
+            .all(|parent| is_set(flags, *parent as usize))
+    })
 }
 
-// Whether one event's name comes before another's.
-fn earlier(store: &MemoryStore, a: usize, b: usize) -> bool {
-    match store.name(a) {
-        None => false,
-        Some(x) => match store.name(b) {
-            None => true,
-            Some(y) => AuthorFirst.precedes(x, y),
-        },
-    }
-}
-
-// Of the unwritten events whose parents are written the one whose name comes first; the count where there is none.
-fn next(store: &MemoryStore, written: &Vec<bool>) -> usize {
-    let mut best = store.count();
-    for n in 0..store.count() {
-        if !is_set(written, n) && parents_set(store, written, n) && earlier(store, n, best) {
-            best = n;
-        }
-    }
-    best
+// Of the unwritten events whose parents are written the one whose name comes first.
+fn next(store: &MemoryStore, written: &[bool]) -> Option<usize> {
+    (0..store.count())
+        .filter(|n| !is_set(written, *n) && parents_set(store, written, *n))
+        .min_by_key(|n| store.name(*n))
 }
 
 // The events in archive order.
@@ -88,7 +70,9 @@ pub fn archive(heap: Global, store: &MemoryStore) -> Result<Vec<u32>, AllocError
     let mut written = vec![in heap; false; store.count()]?;
     let mut order = Vec::new(heap);
     for _ in 0..store.count() {
-        let n = next(store, &written);
+        let Some(n) = next(store, &written) else {
+            break;
+        };
         set(&mut written, n);
         if let Ok(number) = u32::try_from(n) {
             order.push(number)?;

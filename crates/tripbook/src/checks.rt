@@ -2,7 +2,7 @@
 use anyhow::anyhow;
 use event_file::{Reason, Unread};
 use events::BookFault;
-use filing::{named_order, own_order, read_for};
+use filing::{own_order, read_for};
 use std::fs;
 
 // Prints why bytes were not read, and ends the command.
@@ -22,10 +22,7 @@ pub fn check_file(rt: &HostRuntime, file: &str, order: Option<&str>) -> anyhow::
     let bytes = fs::read(rt, file)?;
     let order = match order {
         None => own_order(bytes.as_slice()),
-        Some(word) => match named_order(word) {
-            Some(order) => order,
-            None => return Err(anyhow!("an order is author or number")),
-        },
+        Some(word) => word.parse()?,
     };
     match read_for(rt.alloc(), bytes, order) {
         Ok(view) => {

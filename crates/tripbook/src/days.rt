@@ -5,24 +5,11 @@ use events::Deed;
 use filing::{event_told, own_order, refile_for};
 use std::fs;
 
-fn is_insert(deed: Deed) -> bool {
-    match deed {
-        Deed::Insert { .. } => true,
-        Deed::Delete { .. } => false,
-    }
-}
-
 // How many of the events insert.
 fn inserts(view: &FileView) -> usize {
-    let mut count = 0usize;
-    for n in 0..view.count() {
-        if let Some(deed) = view.deed(n) {
-            if is_insert(deed) {
-                count = count.saturating_add(1);
-            }
-        }
-    }
-    count
+    (0..view.count())
+        .filter(|n| matches!(view.deed(*n), Some(Deed::Insert { .. })))
+        .count()
 }
 
 // Prints each event, and then a summary.
