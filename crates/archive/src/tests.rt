@@ -2,7 +2,7 @@
 ghost use Rattle.std.specs.Prelude.{◌<◌};
 
 use crate::order::archive_order;
-use events::{AuthorFirst, BookFault, Deed, Name, Position};
+use events::{AuthorFirst, BookFault, Deed, Event, Name, NumberedEvent, Position};
 use std::test::Fail;
 use stores::{EventStore, MemoryStore};
 
@@ -12,9 +12,13 @@ fn name(number: u32) -> Name
     Name { author: 7, number }
 }
 
-fn delete() -> Deed {
-    Deed::Delete {
-        at: Position { at: 0 },
+fn delete(name: Name, parents: &[u16]) -> NumberedEvent {
+    Event {
+        name,
+        deed: Deed::Delete {
+            at: Position { at: 0 },
+        },
+        parents,
     }
 }
 
@@ -38,11 +42,11 @@ fn needed(r: Result<usize, BookFault>) -> Option<usize> {
 #[test]
 fn the_first_name_is_written_first(rt: HostRuntime) -> Result<(), Fail> {
     let mut store = MemoryStore::with_capacity(rt.alloc(), 6)?;
-    assert_eq!(rt; answered(store.append(name(9), delete(), &[])), Some(0));
-    assert_eq!(rt; answered(store.append(name(3), delete(), &[0])), Some(1));
-    assert_eq!(rt; answered(store.append(name(5), delete(), &[0])), Some(2));
-    assert_eq!(rt; answered(store.append(name(1), delete(), &[1, 2])), Some(3));
-    assert_eq!(rt; answered(store.append(name(2), delete(), &[])), Some(4));
+    assert_eq!(rt; answered(store.append(delete(name(9), &[]))), Some(0));
+    assert_eq!(rt; answered(store.append(delete(name(3), &[0]))), Some(1));
+    assert_eq!(rt; answered(store.append(delete(name(5), &[0]))), Some(2));
+    assert_eq!(rt; answered(store.append(delete(name(1), &[1, 2]))), Some(3));
+    assert_eq!(rt; answered(store.append(delete(name(2), &[]))), Some(4));
     let mut work = [77; 24];
     let mut names = [name(0); 5];
     assert_eq!(rt;
@@ -59,7 +63,7 @@ fn the_first_name_is_written_first(rt: HostRuntime) -> Result<(), Fail> {
 #[test]
 fn short_lists_are_refused(rt: HostRuntime) -> Result<(), Fail> {
     let mut store = MemoryStore::with_capacity(rt.alloc(), 2)?;
-    assert_eq!(rt; answered(store.append(name(1), delete(), &[])), Some(0));
+    assert_eq!(rt; answered(store.append(delete(name(1), &[]))), Some(0));
     let mut work = [0; 8];
     let mut names = [name(0); 1];
     assert_eq!(rt;

@@ -1,5 +1,5 @@
 //! Event graphs of 65,536 events to measure on.
-use events::{Character, Deed, Name, Position};
+use events::{Character, Deed, Event, Name, Position};
 use std::alloc::{AllocError, Global};
 use stores::{EventStore, MemoryStore};
 
@@ -17,7 +17,11 @@ fn put(store: &mut MemoryStore, author: u32, number: u32, parents: &[u16]) {
     let Ok(at) = Position::new(0) else {
         return;
     };
-    let _ = store.append(name, Deed::Insert { character, at }, parents);
+    let _ = store.append(Event {
+        name,
+        deed: Deed::Insert { character, at },
+        parents,
+    });
 }
 
 // Event n of a chain: each after the one before.

@@ -17,7 +17,7 @@ pub mod shown;
 pub use alike::{same_deed, same_name};
 pub use character::Character;
 pub use deed::Deed;
-pub use event::{Event, NamedEvent, StoredEvent};
+pub use event::{Event, NamedEvent, NumberedEvent, StoredEvent};
 pub use faults::{BookFault, EventFault, FileFault, Layer};
 pub use name::Name;
 pub use orders::{AuthorFirst, NumberFirst, SiblingOrder};

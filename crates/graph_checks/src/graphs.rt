@@ -1,6 +1,6 @@
 //! Event graphs by chance.
 use crate::chance::Chance;
-use events::{Character, Deed, Name, Position};
+use events::{Character, Deed, Event, Name, Position};
 use std::alloc::{AllocError, Global};
 use stores::{EventStore, MemoryStore};
 
@@ -32,7 +32,11 @@ fn put(store: &mut MemoryStore, author: u32, number: u32, parents: &[u16]) {
     let Ok(at) = Position::new(0) else {
         return;
     };
-    let _ = store.append(name, Deed::Insert { character, at }, parents);
+    let _ = store.append(Event {
+        name,
+        deed: Deed::Insert { character, at },
+        parents,
+    });
 }
 
 // A store with up to so many events.

@@ -3,7 +3,7 @@ ghost use Rattle.std.specs.Prelude.{◌<◌};
 
 use crate::differ::difference;
 use crate::questions::{contains_all_below, one_behind_another};
-use events::{BookFault, Deed, Name, Position};
+use events::{BookFault, Deed, Event, Name, Position};
 use std::test::Fail;
 use stores::{EventStore, MemoryStore};
 
@@ -14,7 +14,11 @@ fn append(store: &mut MemoryStore, number: u32, parents: &[u16])
     let deed = Deed::Delete {
         at: Position { at: 0 },
     };
-    let _ = store.append(name, deed, parents);
+    let _ = store.append(Event {
+        name,
+        deed,
+        parents,
+    });
 }
 
 // Event 0, the branch 1, 3 and the branch 2 behind it, and 4 that joins them.
