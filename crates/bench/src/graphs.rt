@@ -6,20 +6,17 @@ use stores::{EventStore, MemoryStore};
 // How many events each graph has.
 pub const MANY: usize = 65_536;
 
-// One more event by an author; what is refused is left out.
-fn put(store: &mut MemoryStore, author: u32, number: u32, parents: &[u16]) {
-    let Ok(name) = Name::new(author, number) else {
-        return;
-    };
-    let Ok(character) = Character::new(65) else {
-        return;
-    };
-    let Ok(at) = Position::new(0) else {
-        return;
-    };
+// One more event: an author's n-th inserts A at 0.
+fn put(store: &mut MemoryStore, author: u16, n: u16, parents: &[u16]) {
     let _ = store.append(Event {
-        name,
-        deed: Deed::Insert { character, at },
+        name: Name {
+            author,
+            number: u32::from(n),
+        },
+        deed: Deed::Insert {
+            character: Character { code: 65 },
+            at: Position { at: 0 },
+        },
         parents,
     });
 }
@@ -29,25 +26,25 @@ pub fn put_chained(store: &mut MemoryStore, n: u16) {
     if n == 0 {
         put(store, 1, 0, &[]);
     } else {
-        put(store, 1, n as u32, &[n - 1]);
+        put(store, 1, n, &[n - 1]);
     }
 }
 
 // Event n of merges: four at a time with no parents, and then one that has seen the four.
 pub fn put_merged(store: &mut MemoryStore, n: u16) {
     if n % 5 == 4 {
-        put(store, 1, n as u32, &[n - 4, n - 3, n - 2, n - 1]);
+        put(store, 1, n, &[n - 4, n - 3, n - 2, n - 1]);
     } else {
-        put(store, (n % 5) as u32 + 2, n as u32, &[]);
+        put(store, n % 5 + 2, n, &[]);
     }
 }
 
 // Event n of two branches: two lines of events, turn by turn.
 pub fn put_branched(store: &mut MemoryStore, n: u16) {
     if n < 2 {
-        put(store, n as u32 + 1, n as u32, &[]);
+        put(store, n + 1, n, &[]);
     } else {
-        put(store, (n % 2) as u32 + 1, n as u32, &[n - 2]);
+        put(store, n % 2 + 1, n, &[n - 2]);
     }
 }
 

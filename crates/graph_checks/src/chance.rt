@@ -1,4 +1,5 @@
 //! Numbers that look random, the same in every run.
+ghost use Rattle.std.specs.Prelude.{◌<◌};
 
 #[derive(Drop)]
 pub struct Chance {
@@ -11,7 +12,9 @@ impl Chance {
     }
 
     // A number below n, or 0 where n is 0.
-    pub fn below(&mut self, n: u32) -> u32 {
+    pub fn below(&mut self, n: u32) -> u32
+        ensures { 0 < n → result < n }
+    {
         self.state = self
             .state
             .wrapping_mul(1_664_525)

@@ -21,32 +21,23 @@ pub fn some_below(heap: Global, chance: &mut Chance, n: u32) -> Result<Vec<u16>,
     Ok(numbers)
 }
 
-// One more event; what is refused is left out.
-fn put(store: &mut MemoryStore, author: u32, number: u32, parents: &[u16]) {
-    let Ok(name) = Name::new(author, number) else {
-        return;
-    };
-    let Ok(character) = Character::new(65) else {
-        return;
-    };
-    let Ok(at) = Position::new(0) else {
-        return;
-    };
-    let _ = store.append(Event {
-        name,
-        deed: Deed::Insert { character, at },
-        parents,
-    });
-}
-
-// A store with up to so many events.
+// A store with up to so many events, each of which inserts A at 0; what is refused is left out.
 pub fn graph(heap: Global, chance: &mut Chance, many: u32) -> Result<MemoryStore, AllocError> {
     let mut store = MemoryStore::with_capacity(heap, 64)?;
     for n in 0..many {
-        let author = chance.below(3);
-        let number = chance.below(9);
+        let name = Name {
+            author: chance.below(3) as u16,
+            number: chance.below(9),
+        };
         let parents = some_below(heap, chance, n)?;
-        put(&mut store, author, number, &parents);
+        let _ = store.append(Event {
+            name,
+            deed: Deed::Insert {
+                character: Character { code: 65 },
+                at: Position { at: 0 },
+            },
+            parents: &parents,
+        });
     }
     Ok(store)
 }
