@@ -1,8 +1,8 @@
 //! Small files word by word, and what reading them answers.
 #![tactic(auto)]
 
-use event_file::{FileView, Reason, Unread};
-use events::{AuthorFirst, BookFault};
+use event_file::{FileView, Reason};
+use events::AuthorFirst;
 use std::alloc::{AllocError, Global};
 
 // The bytes of some words, the high byte first.
@@ -14,43 +14,45 @@ pub fn bytes_of(heap: Global, words: &[u32]) -> Result<Vec<u8>, AllocError> {
     Ok(bytes)
 }
 
-// Number and place of a refusal; 0 and 0 where memory fails.
-fn refusal(unread: &Unread) -> (u8, usize) {
-    match unread.reason {
-        Reason::Fault(fault) => {
-            let book = BookFault::Event(fault);
-            (book.number(), book.place())
-        }
-        Reason::NoMemory => (0, 0),
-    }
-}
-
-// What reading some bytes as a file of type 0 answers: 0 and how many events, or number and place of the refusal.
-pub fn answer(heap: Global, bytes: Vec<u8>) -> (u8, usize) {
+// What reading some bytes as a file of type 0 answers: how many events, or why it is refused.
+pub fn answer(heap: Global, bytes: Vec<u8>) -> Result<usize, Reason> {
     match FileView::read(heap, bytes, &AuthorFirst) {
-        Ok(view) => (0, view.count()),
-        Err(unread) => refusal(&unread),
+        Ok(view) => Ok(view.count()),
+        Err(unread) => Err(unread.reason),
     }
 }
 
 #[cfg(test)]
 mod tests {
     use super::*;
-    use events::{Character, Name, Position};
+    use events::{BookFault, Character, Name, Position};
     use std::test::Fail;
 
+    // How many events, or number and place of the refusal.
+    type Told = Result<usize, (u8, usize)>;
+
+    fn told(heap: Global, bytes: Vec<u8>) -> Told {
+        answer(heap, bytes).map_err(|reason| match reason {
+            Reason::Fault(fault) => {
+                let refusal = BookFault::from(fault);
+                (refusal.number(), refusal.place())
+            }
+            Reason::NoMemory => (0, 0),
+        })
+    }
+
     // One event of four leading words and four parent words, under a head of count 1.
-    fn one(heap: Global, part: [u32; 8]) -> Result<(u8, usize), AllocError> {
+    fn one(heap: Global, part: [u32; 8]) -> Result<Told, AllocError> {
         let mut bytes = bytes_of(heap, &[0x1000_0001])?;
         let event = bytes_of(heap, &part)?;
         bytes.extend_from_slice(&event)?;
         let end = bytes_of(heap, &[0xf000_000a])?;
         bytes.extend_from_slice(&end)?;
-        Ok(answer(heap, bytes))
+        Ok(told(heap, bytes))
     }
 
     // Two events: 1.0 inserts H at 0, and a second one.
-    fn two(heap: Global, part: [u32; 8]) -> Result<(u8, usize), AllocError> {
+    fn two(heap: Global, part: [u32; 8]) -> Result<Told, AllocError> {
         let mut bytes = bytes_of(
             heap,
             &[
@@ -69,7 +71,7 @@ mod tests {
         bytes.extend_from_slice(&event)?;
         let end = bytes_of(heap, &[0xf000_0012])?;
         bytes.extend_from_slice(&end)?;
-        Ok(answer(heap, bytes))
+        Ok(told(heap, bytes))
     }
 
     #[test]
@@ -89,57 +91,47 @@ mod tests {
 
     #[test]
     fn numbers_of_what_cannot_be_made(rt: HostRuntime) -> Result<(), Fail> {
-        match Name::new(65_536, 0) {
-            Ok(_) => assert!(rt; false),
-            Err(fault) => assert!(rt; BookFault::Event(fault).number() == 5),
-        }
-        match Character::new(0xd800) {
-            Ok(_) => assert!(rt; false),
-            Err(fault) => assert!(rt; BookFault::Event(fault).number() == 6),
-        }
-        match Position::new(268_435_456) {
-            Ok(_) => {
-                assert!(rt; false);
-                Ok(())
-            },
-            Err(fault) => {
-                assert!(rt; fault.number() == 13);
-                Ok(())
-            },
-        }
+        let number = |fault| BookFault::from(fault).number();
+        assert_eq!(rt; Name::new(65_536, 0).map_err(number), Err(5));
+        assert_eq!(rt; Character::new(0xd800).map_err(number), Err(6));
+        assert_eq!(rt;
+            Position::new(268_435_456).map_err(|fault| fault.number()),
+            Err(13)
+        );
+        Ok(())
     }
 
     #[test]
     fn lengths_and_heads(rt: HostRuntime) -> Result<(), Fail> {
         let heap = rt.alloc();
         assert_eq!(rt;
-            answer(heap, bytes_of(heap, &[0x1000_0000, 0xf000_0002])?),
-            (0, 0)
+            told(heap, bytes_of(heap, &[0x1000_0000, 0xf000_0002])?),
+            Ok(0)
         );
-        assert_eq!(rt; answer(heap, bytes_of(heap, &[])?), (1, 0));
-        assert_eq!(rt; answer(heap, bytes_of(heap, &[0x1000_0000])?), (1, 1));
+        assert_eq!(rt; told(heap, bytes_of(heap, &[])?), Err((1, 0)));
+        assert_eq!(rt; told(heap, bytes_of(heap, &[0x1000_0000])?), Err((1, 1)));
         let mut odd = bytes_of(heap, &[0x1000_0000, 0xf000_0002])?;
         odd.push(0)?;
-        assert_eq!(rt; answer(heap, odd), (1, 2));
+        assert_eq!(rt; told(heap, odd), Err((1, 2)));
         assert_eq!(rt;
-            answer(heap, bytes_of(heap, &[0x2000_0000, 0xf000_0002])?),
-            (2, 0)
+            told(heap, bytes_of(heap, &[0x2000_0000, 0xf000_0002])?),
+            Err((2, 0))
         );
         assert_eq!(rt;
-            answer(heap, bytes_of(heap, &[0x1100_0000, 0xf000_0002])?),
-            (2, 0)
+            told(heap, bytes_of(heap, &[0x1100_0000, 0xf000_0002])?),
+            Err((2, 0))
         );
         assert_eq!(rt;
-            answer(heap, bytes_of(heap, &[0x1001_0000, 0xf000_0002])?),
-            (1, 2)
+            told(heap, bytes_of(heap, &[0x1001_0000, 0xf000_0002])?),
+            Err((1, 2))
         );
         assert_eq!(rt;
-            answer(heap, bytes_of(heap, &[0x1001_0001, 0xf000_0002])?),
-            (2, 0)
+            told(heap, bytes_of(heap, &[0x1001_0001, 0xf000_0002])?),
+            Err((2, 0))
         );
         assert_eq!(rt;
-            answer(heap, bytes_of(heap, &[0x1000_0000, 0xf000_0003])?),
-            (4, 1)
+            told(heap, bytes_of(heap, &[0x1000_0000, 0xf000_0003])?),
+            Err((4, 1))
         );
         Ok(())
     }
@@ -161,7 +153,7 @@ mod tests {
                     0,
                 ],
             )?,
-            (0, 1)
+            Ok(1)
         );
         assert_eq!(rt;
             one(
@@ -177,7 +169,7 @@ mod tests {
                     0,
                 ],
             )?,
-            (3, 1)
+            Err((3, 1))
         );
         assert_eq!(rt;
             one(
@@ -193,7 +185,7 @@ mod tests {
                     0,
                 ],
             )?,
-            (3, 2)
+            Err((3, 2))
         );
         assert_eq!(rt;
             one(
@@ -209,7 +201,7 @@ mod tests {
                     0,
                 ],
             )?,
-            (3, 3)
+            Err((3, 3))
         );
         assert_eq!(rt;
             one(
@@ -225,7 +217,7 @@ mod tests {
                     0,
                 ],
             )?,
-            (3, 4)
+            Err((3, 4))
         );
         assert_eq!(rt;
             one(
@@ -241,7 +233,7 @@ mod tests {
                     0,
                 ],
             )?,
-            (3, 6)
+            Err((3, 6))
         );
         assert_eq!(rt;
             one(
@@ -257,7 +249,7 @@ mod tests {
                     1,
                 ],
             )?,
-            (3, 8)
+            Err((3, 8))
         );
         Ok(())
     }
@@ -279,7 +271,7 @@ mod tests {
                     0,
                 ],
             )?,
-            (5, 0)
+            Err((5, 0))
         );
         assert_eq!(rt;
             one(
@@ -295,7 +287,7 @@ mod tests {
                     0,
                 ],
             )?,
-            (6, 0)
+            Err((6, 0))
         );
         assert_eq!(rt;
             one(
@@ -311,7 +303,7 @@ mod tests {
                     0,
                 ],
             )?,
-            (0, 1)
+            Ok(1)
         );
         assert_eq!(rt;
             two(
@@ -327,7 +319,7 @@ mod tests {
                     0,
                 ],
             )?,
-            (7, 1)
+            Err((7, 1))
         );
         assert_eq!(rt;
             two(
@@ -343,7 +335,7 @@ mod tests {
                     0,
                 ],
             )?,
-            (8, 1)
+            Err((8, 1))
         );
         assert_eq!(rt;
             two(
@@ -359,7 +351,7 @@ mod tests {
                     0,
                 ],
             )?,
-            (8, 1)
+            Err((8, 1))
         );
         assert_eq!(rt;
             two(
@@ -375,7 +367,7 @@ mod tests {
                     0,
                 ],
             )?,
-            (9, 1)
+            Err((9, 1))
         );
         assert_eq!(rt;
             two(
@@ -391,7 +383,7 @@ mod tests {
                     0,
                 ],
             )?,
-            (10, 1)
+            Err((10, 1))
         );
         assert_eq!(rt;
             two(
@@ -407,7 +399,7 @@ mod tests {
                     0,
                 ],
             )?,
-            (0, 2)
+            Ok(2)
         );
         Ok(())
     }
