@@ -1,8 +1,11 @@
 -- Where the n-th entry that passes a test stands.
-use Rattle.std.proofs.Common.{◌≡◌, ℕ, zero, suc, ◌+◌, ◌<◌, ◌≤◌, Bool, true, false, cond, List, [], ◌∷◌, ◌++◌, length, get_or, take, Some, None, Option, sym, refl, ap, ◌∙◌, zero-add, one-add, arith}
+use Rattle.std.proofs.Common.{◌≡◌, ℕ, zero, suc, ◌+◌, ◌<◌, ◌≤◌, Bool, true, false, not, cond, ltb, List, [], ◌∷◌, ◌++◌, length, get_or, take, Some, None, Option, filter, map, sym, refl, ap, ◌∙◌, zero-add, add-zero, one-add, arith}
 use Rattle.std.proofs.lemmas.Bool.{both_ways}
 use Rattle.indexes.specs.declared.entry.Entry.{Entry}
-use Rattle.indexes.specs.Questions.{bit, count, hit, shifted, find}
+use Rattle.std.specs.List.{position, position_or_len, enumerate_from, slice_get}
+use Rattle.std.proofs.lemmas.Bool.Decides.{nat_tests}
+use Rattle.indexes.specs.Entries.{has}
+use Rattle.indexes.specs.Questions.{bit, count, hit, shifted, find, place_of}
 
 -- behind one entry, where the rest finds its place
 behind : (b : Bool) (rest : ℕ → Option ℕ) (n k : ℕ) → rest n ≡ Some k → cond b (hit (bit b + n) rest) (shifted 1 (rest (bit b + n))) ≡ Some (suc k)
@@ -64,3 +67,31 @@ pub find_right : (p : Entry → Bool) (xs ys : List Entry) (n : ℕ) → find p 
 find_right p [] ys n = ap (find p ys) (zero-add n) ∙ sym (shifted_zero (find p ys n))
 find_right p (x ∷ xs) ys n =
     right_step (p x) (find p (xs ++ ys)) (count p xs) n (length xs) (find p ys n) (find_right p xs ys n)
+
+-- the first place as the library finds it
+first_is : (p : Entry → Bool) (xs : List Entry) → find p xs 0 ≡ position p xs
+first_is p [] = refl
+first_is p (x ∷ xs) = step (p x) (find p xs 0) (position_or_len p xs) (length xs) (first_is p xs)
+  where
+    step : (b : Bool) (r : Option ℕ) (k n : ℕ) → r ≡ cond (ltb k n) (Some k) None → cond b (Some 0) (shifted 1 r) ≡ cond (ltb (cond (not b) (1 + k) 0) (suc n)) (Some (cond (not b) (1 + k) 0)) None
+    step true r k n is = grind (arith, nat_tests)
+    step false r k n is = grind (arith, nat_tests)
+
+-- the place of a character as the library finds it
+pub place_of_is : (xs : List Entry) (c : ℕ) → place_of xs c ≡ position (has c) xs
+place_of_is xs c = first_is (has c) xs
+
+-- behind one entry of a numbered list
+numbered : (b : Bool) (k n : ℕ) (x : Entry) (rest : ℕ → Option ℕ) (qs : List (ℕ × Entry)) → ((m : ℕ) → shifted (k + 1) (rest m) ≡ slice_get (map (λ q. q.0) qs) m) → shifted k (cond b (hit n rest) (shifted 1 (rest n))) ≡ slice_get (map (λ q. q.0) (cond b ((k, x) ∷ qs) qs)) n
+numbered true k zero x rest qs is = ap Some (add-zero k)
+numbered true k (suc n) x rest qs is = shifted_shifted k 1 (rest n) ∙ is n
+numbered false k n x rest qs is = shifted_shifted k 1 (rest n) ∙ is n
+
+find_numbered : (p : Entry → Bool) (xs : List Entry) (k n : ℕ) → shifted k (find p xs n) ≡ slice_get (map (λ q. q.0) (filter (λ q. p q.1) (enumerate_from k xs))) n
+find_numbered p [] k n = refl
+find_numbered p (x ∷ xs) k n =
+    numbered (p x) k n x (find p xs) (filter (λ q. p q.1) (enumerate_from (k + 1) xs)) (find_numbered p xs (k + 1))
+
+-- the n-th place as the library finds it: among the numbers of the entries that pass
+pub find_is : (p : Entry → Bool) (xs : List Entry) (n : ℕ) → find p xs n ≡ slice_get (map (λ q. q.0) (filter (λ q. p q.1) (enumerate_from 0 xs))) n
+find_is p xs n = sym (shifted_zero (find p xs n)) ∙ find_numbered p xs 0 n

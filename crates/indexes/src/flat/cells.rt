@@ -9,15 +9,10 @@ pub fn trim_cells(cells: &mut Vec<Entry>)
     ensures after { cells.new.items ≡ trimmed cells.old.items }
     ensures kept { vec_capacity cells.new ≡ vec_capacity cells.old }
 {
-    let mut last = 0;
+    cells.retain(|entry| entry.is_present());
     let mut attachment = Attachment::Root;
-    for i in 0..cells.len() {
-        let entry = cells[i];
-        if entry.is_present() {
-            cells[last] = entry.renewed(attachment);
-            attachment = Attachment::RightOf(entry.character);
-            last += 1;
-        }
+    for entry in cells.iter_mut() {
+        *entry = entry.renewed(attachment);
+        attachment = Attachment::RightOf(entry.character);
     }
-    cells.truncate(last);
 }

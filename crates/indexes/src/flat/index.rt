@@ -22,96 +22,65 @@ impl PositionIndex for FlatIndex {
     }
 
     fn at(&self, place: usize) -> Option<Entry> {
-        if place < self.cells.len() {
-            Some(self.cells[place])
-        } else {
-            None
-        }
+        self.cells.get(place).copied()
     }
 
+    #[tactic(auto, using(crate::proofs::Counts::count_is))]
     fn prepared_count(&self) -> usize {
-        let mut prepared = 0;
-        for i in 0..self.cells.len() {
-            if self.cells[i].prepared_here() {
-                prepared += 1;
-            }
-        }
-        prepared
+        self.cells.iter().filter(|e| e.prepared_here()).count()
     }
 
+    #[tactic(auto, using(crate::proofs::Counts::count_is))]
     fn present_count(&self) -> usize {
-        let mut present = 0;
-        for i in 0..self.cells.len() {
-            if self.cells[i].is_present() {
-                present += 1;
-            }
-        }
-        present
+        self.cells.iter().filter(|e| e.is_present()).count()
     }
 
     fn nth_prepared(&self, n: usize) -> Option<usize> {
-        let mut seen = 0;
-        for i in 0..self.cells.len() {
-            if self.cells[i].prepared_here() {
-                if seen == n {
-                    return Some(i);
-                }
-                seen += 1;
-            }
-        }
-        None
+        self.cells
+            .iter()
+            .enumerate()
+            .filter(|(_, e)| e.prepared_here())
+            .map(|(place, _)| place)
+            .nth(n)
     }
 
     fn place_of(&self, character: u16) -> Option<usize> {
-        for i in 0..self.cells.len() {
-            if self.cells[i].character == character {
-                return Some(i);
-            }
-        }
-        None
+        self.cells.iter().position(|e| e.character == character)
     }
 
+    #[tactic(auto, using(crate::proofs::Counts::count_is))]
     fn present_before(&self, place: usize) -> Option<usize> {
-        if place > self.cells.len() {
-            return None;
-        }
-        let mut before = 0;
-        for i in 0..place {
-            if self.cells[i].is_present() {
-                before += 1;
-            }
-        }
-        Some(before)
+        let front = self.cells.get(..place)?;
+        Some(front.iter().filter(|e| e.is_present()).count())
     }
 
+    #[tactic(auto, using(crate::proofs::Apart::distinct_inserted))]
     fn put(&mut self, place: usize, entry: Entry) -> bool {
-        if place > self.cells.len() || self.cells.len() >= self.room {
-            return false;
-        }
-        if self.place_of(entry.character).is_some() {
-            return false;
-        }
-        self.cells.insert(place, entry).is_ok()
+        place <= self.cells.len()
+            && self.cells.len() < self.room
+            && self.place_of(entry.character).is_none()
+            && self.cells.insert(place, entry).is_ok()
     }
 
+    #[tactic(auto, using(crate::proofs::Edits::set_at_place, crate::proofs::Edits::at_place_past, crate::proofs::Edits::distinct_set))]
     fn set_prepared(&mut self, place: usize, state: u32) -> bool {
-        if place >= self.cells.len() {
+        let Some(entry) = self.cells.get_mut(place) else {
             return false;
-        }
-        let entry = self.cells[place].with_prepared(state);
-        self.cells[place] = entry;
+        };
+        *entry = entry.with_prepared(state);
         true
     }
 
+    #[tactic(auto, using(crate::proofs::Edits::set_at_place, crate::proofs::Edits::at_place_past, crate::proofs::Edits::distinct_set))]
     fn set_effect(&mut self, place: usize, effect: Effect) -> bool {
-        if place >= self.cells.len() {
+        let Some(entry) = self.cells.get_mut(place) else {
             return false;
-        }
-        let entry = self.cells[place].with_effect(effect);
-        self.cells[place] = entry;
+        };
+        *entry = entry.with_effect(effect);
         true
     }
 
+    #[tactic(auto, using(crate::proofs::Chains::distinct_trimmed, crate::proofs::Chains::length_trimmed))]
     fn trim(&mut self) {
         trim_cells(&mut self.cells);
     }

@@ -1,26 +1,21 @@
-use Rattle.std.proofs.Common.{◌<◌, length, vec_items, sym, ◌∙◌, arith}
-use Rattle.indexes.proofs.Chains.{trimming_yes, trimming_no, trimming_all}
+use Rattle.std.proofs.Common.{◌≡◌, ◌≤◌, length, filter, vec_items, vec_len, rules, ap, ◌∙◌, arith}
+use Rattle.std.proofs.lemmas.List.{take-append-le, take_all}
+use Rattle.std.proofs.lemmas.Fn.{filter_same}
+use Rattle.indexes.specs.Changes.{chained}
+use Rattle.indexes.specs.Entries.{is_present}
+use Rattle.indexes.specs.declared.entry.Attachment.TheVariants.{Root}
+use Rattle.indexes.proofs.Chains.{chain_more, chain_done}
 use Rattle.indexes.proofs.flat.cells.trim_cells.Goals as goal
-use Rattle.indexes.proofs.flat.cells.trim_cells.Goals.{then-is_present, else-is_present}
 
-pub loop-i-preserved : goal.loop-i-preserved
-loop-i-preserved c =
-    let xs = vec_items c.args.cells.now in
-    let ys = vec_items c.loop-i.cells in
-    let within : c.loop-i.i < length xs = omega (arith, c.args.cells.now.ok.0) in
-    elim c.if-is_present.branch [
-      | then-is_present w ↦
-          let t = trimming_yes xs ys c.loop-i.last c.loop-i.i c.loop-i.attachment c.index.result.now within c.index.ensures c.loop-i.invariant.0 (sym w.if-is_present.ensures) in
-          simp (w.cells-is, w.last-is, w.attachment-is, w.renewed.ensures) (t, c.loop-i.invariant.1)
-      | else-is_present w ↦
-          let t = trimming_no xs ys c.loop-i.last c.loop-i.i c.loop-i.attachment c.index.result.now within c.index.ensures c.loop-i.invariant.0 (sym w.if-is_present.ensures) in
-          simp (w.cells-is, w.last-is, w.attachment-is) (t, c.loop-i.invariant.1)
-    ]
+pub loop-entry-preserved : goal.loop-entry-preserved
+loop-entry-preserved c =
+    chain_more c.loop-entry.entry-items c.loop-entry.entry-index c.loop-entry.attachment c.renewed.result _ (omega arith) c.renewed.ensures ∙ c.loop-entry.invariant
 
-pub returns : goal.returns
-returns c =
-    let v = c.args.cells.now in
-    record {
-      after = c.truncate.ensures.items ∙ trimming_all (vec_items v) (vec_items c.loop-i.cells) c.loop-i.last c.loop-i.i c.loop-i.attachment c.loop-i.invariant.0 (omega (arith, v.ok.0));
-      kept = c.truncate.ensures.capacity ∙ c.loop-i.invariant.1;
-    }
+pub returns-clause-after : goal.returns-clause-after
+returns-clause-after c =
+    let v = c.retain.new.self in
+    let es = c.loop-entry.entry-items in
+    let kept : vec_items v ≡ filter is_present (vec_items c.args.cells.now) = filter_same _ is_present _ (λ x b f' k. search rules) _ _ c.retain.ensures.filtered in
+    let done = chain_done es _ c.loop-entry.entry-index c.loop-entry.attachment (omega arith) c.loop-entry.invariant in
+    let long : length es ≡ vec_len v = omega (arith, v.ok.0, ap length c.deref_mut-entry-items.ensures.value) in
+    take-append-le (vec_len v) es _ (omega (arith, long)) ∙ take_all (vec_len v) es (omega (arith, long)) ∙ done ∙ ap (chained Root) (c.deref_mut-entry-items.ensures.value ∙ kept)

@@ -1,8 +1,9 @@
-use Rattle.std.proofs.Common.{◌≡◌, vec_items, vec_capacity}
-use Rattle.indexes.proofs.Chains.{Trimming}
+use Rattle.std.proofs.Common.{◌≡◌, ◌++◌, take, drop, vec_items}
+use Rattle.indexes.specs.Changes.{chained}
+use Rattle.indexes.specs.declared.entry.Attachment.TheVariants.{Root}
 use Rattle.indexes.proofs.flat.cells.trim_cells.Given as goal
 
-abbrev pub invariant-loop-i : goal.invariant-loop-i
-invariant-loop-i l =
-    Trimming (vec_items l.initial.cells) (vec_items l.cells) l.last l.i l.attachment
-    × (vec_capacity l.cells ≡ vec_capacity l.initial.cells)
+-- the entries renewed so far, and the chain that the rest will be, are the whole chain
+abbrev pub invariant-loop-entry : goal.invariant-loop-entry
+invariant-loop-entry l =
+    take l.entry-index l.entry-items ++ chained l.attachment (drop l.entry-index l.entry-items) ≡ chained Root l.initial.entry-items
