@@ -38,3 +38,6 @@ distinct_trimmed es d =
 pub length_trimmed : (es : List Entry) → length (trimmed es) ≤ length es
 length_trimmed es =
     omega (arith, length_chained Root (filter is_present es), length-filter is_present es, count_by-le-length is_present es)
+
+-- what a trim asks: no character twice, and no more entries
+pub ruleset trims = (distinct_trimmed, length_trimmed)

@@ -1,6 +1,6 @@
 -- How many entries pass a test, in a list that is made of others.
-use Rattle.std.proofs.Common.{◌≡◌, ℕ, ◌+◌, ◌<◌, ◌≤◌, Bool, true, false, cond, List, [], ◌∷◌, ◌++◌, length, get_or, take, drop, sym, refl, ap, ◌∙◌, zero-add, arith}
-use Rattle.std.proofs.lemmas.List.{take_more, take-append-drop}
+use Rattle.std.proofs.Common.{◌≡◌, ℕ, ◌+◌, ◌≤◌, Bool, true, false, cond, List, [], ◌∷◌, ◌++◌, length, take, drop, sym, refl, ap, ◌∙◌, zero-add, arith}
+use Rattle.std.proofs.lemmas.List.{take-append-drop}
 use Rattle.std.specs.List.{count_by}
 use Rattle.std.proofs.lemmas.List.Recursion.{is_count_by}
 use Rattle.indexes.specs.declared.entry.Entry.{Entry}
@@ -17,16 +17,6 @@ count_is p xs = is_count_by (count p) p refl (λ x ys. one (p x) (count p ys)) x
     one : (b : Bool) (n : ℕ) → bit b + n ≡ cond b (1 + n) n
     one true n = refl
     one false n = zero-add n
-
--- one more entry
-pub count_more : (p : Entry → Bool) (xs : List Entry) (i : ℕ) (d : Entry) → i < length xs → count p (take (i + 1) xs) ≡ count p (take i xs) + bit (p (get_or xs i d))
-count_more p xs i d within =
-    ap (count p) (take_more xs i d within) ∙ count_append p (take i xs) (get_or xs i d ∷ []) ∙ ap (λ n. count p (take i xs) + n) (omega arith)
-
--- the same at an element that was read, by the answer of its test
-pub count_read : (p : Entry → Bool) (xs : List Entry) (i : ℕ) (e : Entry) (b : Bool) → i < length xs → e ≡ get_or xs i e → b ≡ p e → count p (take (i + 1) xs) ≡ count p (take i xs) + bit b
-count_read p xs i e b within read test =
-    count_more p xs i e within ∙ ap (λ v. count p (take i xs) + bit v) (sym (test ∙ ap p read))
 
 pub bit_small : (b : Bool) → bit b ≤ 1
 bit_small true = omega arith

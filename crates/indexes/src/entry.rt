@@ -3,14 +3,14 @@ ghost use Rattle.std.specs.Prelude.{◌≡◌};
 ghost use Rattle.indexes.specs.Entries.{is_prepared, is_present, with_prepared, with_effect, renewed};
 
 /// Whether the character is in the text once every event held has had its effect.
-#[derive(Clone, Copy, PartialEq)]
+#[derive(Clone, Copy, Debug, PartialEq, Eq)]
 pub enum Effect {
     Present,
     Gone,
 }
 
 /// Where the character hangs in the tree: on the right of the root, or beside another character.
-#[derive(Clone, Copy, PartialEq)]
+#[derive(Clone, Copy, Debug, PartialEq, Eq)]
 pub enum Attachment {
     Root,
     LeftOf(u16),
@@ -19,7 +19,8 @@ pub enum Attachment {
 
 /// A character by its event number. `prepared` is 0 where it is not inserted yet in the prepared
 /// version, 1 where it is present there, and k + 1 where k deletes of that version struck it.
-#[derive(Clone, Copy, PartialEq)]
+// A number and no enum: each advance adds one to it and each retreat takes one, in every case.
+#[derive(Clone, Copy, Debug, PartialEq, Eq)]
 pub struct Entry {
     pub character: u16,
     pub prepared: u32,
@@ -39,10 +40,7 @@ impl Entry {
     pub fn is_present(&self) -> bool
         ensures { result ≡ is_present self.now }
     {
-        match self.effect {
-            Effect::Present => true,
-            Effect::Gone => false,
-        }
+        self.effect == Effect::Present
     }
 
     /// The same entry in another prepared state.

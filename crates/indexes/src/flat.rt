@@ -1,5 +1,5 @@
 //! The flat index: the entries in the order of the text, in cells that are handed over.
-ghost use Rattle.std.specs.Prelude.{◌≤◌, vec_len, vec_capacity};
+ghost use Rattle.std.specs.Prelude.{◌≤◌, min, vec_len, vec_capacity};
 ghost use Rattle.indexes.specs.Laws.{Distinct};
 ghost use Rattle.indexes.specs.Questions.{characters};
 
@@ -12,9 +12,6 @@ pub mod make;
 #[derive(Drop)]
 pub struct FlatIndex {
     cells: Vec<Entry>,
-    room: usize,
     ghost distinct: { Distinct (characters cells.items) },
-    ghost long: { vec_len cells ≤ room },
-    ghost reserved: { room ≤ vec_capacity cells },
-    ghost small: { room ≤ 65536 },
+    ghost long: { vec_len cells ≤ min (vec_capacity cells) 65536 },
 }

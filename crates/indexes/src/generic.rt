@@ -9,7 +9,7 @@ use crate::entry::Entry;
 use crate::position::PositionIndex;
 
 /// What every question answers at one moment.
-#[derive(Clone, Copy, PartialEq)]
+#[derive(Clone, Copy, Debug, PartialEq, Eq)]
 pub struct Answers {
     pub capacity: usize,
     pub length: usize,
@@ -47,9 +47,5 @@ pub fn append<I: PositionIndex>(index: &mut I, entry: Entry) -> Option<usize>
     ensures kept { I.room index.new ≡ I.room index.old }
 {
     let end = index.len();
-    if index.put(end, entry) {
-        index.place_of(entry.character)
-    } else {
-        None
-    }
+    index.put(end, entry).then_some(end)
 }

@@ -14,7 +14,7 @@ impl PositionIndex for FlatIndex {
     ghost laws = { flat_laws };
 
     fn capacity(&self) -> usize {
-        self.room
+        self.cells.capacity().min(65_536)
     }
 
     fn len(&self) -> usize {
@@ -57,12 +57,12 @@ impl PositionIndex for FlatIndex {
     #[tactic(auto, using(crate::proofs::Apart::distinct_inserted))]
     fn put(&mut self, place: usize, entry: Entry) -> bool {
         place <= self.cells.len()
-            && self.cells.len() < self.room
+            && self.cells.len() < self.capacity()
             && self.place_of(entry.character).is_none()
             && self.cells.insert(place, entry).is_ok()
     }
 
-    #[tactic(auto, using(crate::proofs::Edits::set_at_place, crate::proofs::Edits::at_place_past, crate::proofs::Edits::distinct_set))]
+    #[tactic(auto, using(crate::proofs::Edits::written))]
     fn set_prepared(&mut self, place: usize, state: u32) -> bool {
         let Some(entry) = self.cells.get_mut(place) else {
             return false;
@@ -71,7 +71,7 @@ impl PositionIndex for FlatIndex {
         true
     }
 
-    #[tactic(auto, using(crate::proofs::Edits::set_at_place, crate::proofs::Edits::at_place_past, crate::proofs::Edits::distinct_set))]
+    #[tactic(auto, using(crate::proofs::Edits::written))]
     fn set_effect(&mut self, place: usize, effect: Effect) -> bool {
         let Some(entry) = self.cells.get_mut(place) else {
             return false;
@@ -80,7 +80,7 @@ impl PositionIndex for FlatIndex {
         true
     }
 
-    #[tactic(auto, using(crate::proofs::Chains::distinct_trimmed, crate::proofs::Chains::length_trimmed))]
+    #[tactic(auto, using(crate::proofs::Chains::trims))]
     fn trim(&mut self) {
         trim_cells(&mut self.cells);
     }

@@ -13,7 +13,6 @@ impl FlatIndex {
         ensures room { flat_room result ≡ min (vec_capacity cells) 65536 }
     {
         cells.clear();
-        let room = cells.capacity().min(65_536);
-        FlatIndex { cells, room }
+        FlatIndex { cells }
     }
 }

@@ -1,4 +1,4 @@
-use Rattle.std.proofs.Common.{◌≡◌, ◌≤◌, length, filter, vec_items, vec_len, rules, ap, ◌∙◌, arith}
+use Rattle.std.proofs.Common.{◌≡◌, length, filter, vec_items, vec_len, rules, ap, ◌∙◌, arith}
 use Rattle.std.proofs.lemmas.List.{take-append-le, take_all}
 use Rattle.std.proofs.lemmas.Fn.{filter_same}
 use Rattle.indexes.specs.Changes.{chained}

@@ -1,4 +1,4 @@
-use Rattle.std.proofs.Common.{◌≡◌, ◌++◌, take, drop, vec_items}
+use Rattle.std.proofs.Common.{◌≡◌, ◌++◌, take, drop}
 use Rattle.indexes.specs.Changes.{chained}
 use Rattle.indexes.specs.declared.entry.Attachment.TheVariants.{Root}
 use Rattle.indexes.proofs.flat.cells.trim_cells.Given as goal
