@@ -1,8 +1,8 @@
 -- Lists of numbers in which none stands twice.
-use Rattle.std.proofs.Common.{◌≡◌, ℕ, zero, suc, Bool, true, false, cond, eqb, List, [], ◌∷◌, is_some, Some, None, filter, Option, sym, refl, ap, subst, arith}
+use Rattle.std.proofs.Common.{◌≡◌, ℕ, zero, suc, Bool, true, false, cond, List, [], ◌∷◌, is_some, Some, None, filter, Option, sym, refl, subst, arith}
 use Rattle.std.specs.List.{insert}
 use Rattle.std.proofs.ByRecursion.{All-get_or, All-from_get_or}
-use Rattle.std.proofs.lemmas.Bool.{both_ways}
+use Rattle.std.proofs.lemmas.Bool.{both_ways, eqb-false}
 use Rattle.std.proofs.lemmas.List.{map-append, take-map, drop-map}
 use Rattle.indexes.specs.declared.entry.Entry.{Entry}
 use Rattle.indexes.specs.Laws.{Distinct, Away, Apart}
@@ -32,27 +32,21 @@ apart_inserted c [] (suc i) new a = (tt, tt)
 apart_inserted c (x ∷ cs) (suc i) new a =
     (away_inserted x c cs i (λ e. new.0 (sym e)) a.0, apart_inserted c cs i new.1 a.1)
 
-away_cond : (c d : ℕ) (cs : List ℕ) (b : Bool) → (d ≡ c → ⊥) → Away c cs → Away c (cond b (d ∷ cs) cs)
-away_cond c d cs true ne a = (ne, a)
-away_cond c d cs false ne a = a
-
-apart_cond : (c : ℕ) (cs : List ℕ) (b : Bool) → Away c cs → Apart cs → Apart (cond b (c ∷ cs) cs)
-apart_cond c cs true new a = (new, a)
-apart_cond c cs false new a = a
-
-characters_cond : (b : Bool) (e : Entry) (es : List Entry) → characters (cond b (e ∷ es) es) ≡ cond b (e.character ∷ characters es) (characters es)
-characters_cond true e es = refl
-characters_cond false e es = refl
-
 pub away_kept : (p : Entry → Bool) (c : ℕ) (es : List Entry) → Away c (characters es) → Away c (characters (filter p es))
 away_kept p c [] a = tt
 away_kept p c (e ∷ es) a =
-    subst (Away c) (sym (characters_cond (p e) e (filter p es))) (away_cond c e.character (characters (filter p es)) (p e) a.0 (away_kept p c es a.1))
+    elim (p e) as (λ b. Away c (characters (cond b (e ∷ filter p es) (filter p es)))) [
+      | true ↦ (a.0, away_kept p c es a.1)
+      | false ↦ away_kept p c es a.1
+    ]
 
 pub apart_kept : (p : Entry → Bool) (es : List Entry) → Apart (characters es) → Apart (characters (filter p es))
 apart_kept p [] a = tt
 apart_kept p (e ∷ es) a =
-    subst Apart (sym (characters_cond (p e) e (filter p es))) (apart_cond e.character (characters (filter p es)) (p e) (away_kept p e.character es a.0) (apart_kept p es a.1))
+    elim (p e) as (λ b. Apart (characters (cond b (e ∷ filter p es) (filter p es)))) [
+      | true ↦ (away_kept p e.character es a.0, apart_kept p es a.1)
+      | false ↦ apart_kept p es a.1
+    ]
 
 pub characters_inserted : (es : List Entry) (i : ℕ) (e : Entry) → characters (insert es i e) ≡ insert (characters es) i e.character
 characters_inserted es i e = simp (map-append, take-map, drop-map)
@@ -66,14 +60,11 @@ unfound false rest is = (refl, some (rest 0) is)
     some None e = refl
     some (Some k) e = e
 
-differ : (d c : ℕ) → eqb d c ≡ false → d ≡ c → ⊥
-differ d c is e = let z = ap (λ n. eqb n c) e in grind (arith, is, z)
-
 pub away_unfound : (c : ℕ) (es : List Entry) → is_some (place_of es c) ≡ false → Away c (characters es)
 away_unfound c [] is = tt
 away_unfound c (e ∷ es) is =
     let u = unfound (has c e) (find (has c) es) is in
-    (differ e.character c u.0, away_unfound c es u.1)
+    (eqb-false e.character c u.0, away_unfound c es u.1)
 
 pub distinct_inserted : (es : List Entry) (i : ℕ) (e : Entry) → is_some (place_of es e.character) ≡ false → Distinct (characters es) → Distinct (characters (insert es i e))
 distinct_inserted es i e new d =

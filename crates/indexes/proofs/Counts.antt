@@ -2,6 +2,7 @@
 use Rattle.std.proofs.Common.{◌≡◌, ℕ, ◌+◌, ◌≤◌, Bool, true, false, cond, List, [], ◌∷◌, ◌++◌, length, take, drop, sym, refl, ap, ◌∙◌, zero-add, arith}
 use Rattle.std.proofs.lemmas.List.{take-append-drop}
 use Rattle.std.specs.List.{count_by}
+use Rattle.std.proofs.lemmas.List.Sums.{count_by-le-length}
 use Rattle.std.proofs.lemmas.List.Recursion.{is_count_by}
 use Rattle.indexes.specs.declared.entry.Entry.{Entry}
 use Rattle.indexes.specs.Questions.{bit, count}
@@ -23,8 +24,7 @@ bit_small true = omega arith
 bit_small false = omega arith
 
 pub count_le_length : (p : Entry → Bool) (xs : List Entry) → count p xs ≤ length xs
-count_le_length p [] = omega arith
-count_le_length p (x ∷ xs) = let ih = count_le_length p xs in omega (arith, ih, bit_small (p x))
+count_le_length p xs = rw (count_is p xs) (count_by-le-length p xs)
 
 pub count_take_le : (p : Entry → Bool) (xs : List Entry) (i : ℕ) → count p (take i xs) ≤ count p xs
 count_take_le p xs i =

@@ -1,7 +1,6 @@
 -- Where a character stands: in a list without doubles, and after a put.
-use Rattle.std.proofs.Common.{◌≡◌, ℕ, zero, suc, ◌+◌, ◌<◌, ◌≤◌, true, false, not, ◌&&◌, ltb, leb, List, [], ◌∷◌, length, get_or, take, drop, is_some, Some, None, sym, refl, ap, ◌∙◌, subst, add-zero, arith, ltb-true, le-ltb, lt-ltb, eq-eqb, ne_eqb, le-leb, leb-true}
-use borrow.Author.Tests.{lt-leb}
-use Rattle.std.proofs.lemmas.Bool.{and_parts, and_left, and_right, and_from, not-true}
+use Rattle.std.proofs.Common.{◌≡◌, ℕ, zero, suc, ◌+◌, ◌<◌, ◌≤◌, true, false, List, [], ◌∷◌, length, get_or, take, drop, is_some, Some, None, sym, refl, ap, ◌∙◌, subst, add-zero, arith, eq-eqb, ne_eqb}
+use Rattle.std.proofs.lemmas.Bool.Decides.{nat_tests}
 use Rattle.indexes.specs.Changes.{can_put}
 use Rattle.std.specs.List.{insert}
 use Rattle.std.proofs.ByRecursion.{All-take}
@@ -54,24 +53,18 @@ place_of_put es i e within new =
 
 -- what a put that is taken shows
 pub put_parts : (es : List Entry) (room place c : ℕ) → can_put es room place c ≡ true → (place ≤ length es) × (is_some (place_of es c) ≡ false) × (length es < room)
-put_parts es room place c is =
-    let outer = and_parts (leb place (length es) && not (is_some (place_of es c))) (ltb (length es) room) is in
-    let inner = and_parts (leb place (length es)) (not (is_some (place_of es c))) outer.0 in
-    (leb-true _ _ inner.0, not-true _ inner.1, ltb-true _ _ outer.1)
+put_parts es room place c is = grind (arith, nat_tests)
 
 -- what refuses a put, and what makes one
 
 pub put_past : (es : List Entry) (room place c : ℕ) → length es < place → can_put es room place c ≡ false
-put_past es room place c past =
-    and_left _ (ltb (length es) room) (and_left (leb place (length es)) (not (is_some (place_of es c))) (lt-leb place (length es) past))
+put_past es room place c past = grind (arith, nat_tests)
 
 pub put_full : (es : List Entry) (room place c : ℕ) → room ≤ length es → can_put es room place c ≡ false
-put_full es room place c full = and_right (leb place (length es) && not (is_some (place_of es c))) _ (le-ltb (length es) room full)
+put_full es room place c full = grind (arith, nat_tests)
 
 pub put_listed : (es : List Entry) (room place c : ℕ) → is_some (place_of es c) ≡ true → can_put es room place c ≡ false
-put_listed es room place c is =
-    and_left _ (ltb (length es) room) (and_right (leb place (length es)) (not (is_some (place_of es c))) (ap not is))
+put_listed es room place c is = grind (arith, nat_tests)
 
 pub put_made : (es : List Entry) (room place c : ℕ) → place ≤ length es → is_some (place_of es c) ≡ false → length es < room → can_put es room place c ≡ true
-put_made es room place c within new free =
-    and_from (leb place (length es) && not (is_some (place_of es c))) (ltb (length es) room) (and_from (leb place (length es)) (not (is_some (place_of es c))) (le-leb place (length es) within) (ap not new)) (lt-ltb (length es) room free)
+put_made es room place c within new free = grind (arith, nat_tests)
