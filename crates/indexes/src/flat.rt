@@ -9,7 +9,8 @@ pub mod cells;
 pub mod index;
 pub mod make;
 
-#[derive(Drop)]
+/// The capacity of the cells, at most 65,536, is the room: no change gives them other memory.
+#[derive(Debug, Drop)]
 pub struct FlatIndex {
     cells: Vec<Entry>,
     ghost distinct: { Distinct (characters cells.items) },
