@@ -4,7 +4,7 @@ ghost use Rattle.indexes.specs.Changes.{trimmed};
 
 use crate::entry::{Attachment, Entry};
 
-/// Moves each present entry to the front, renewed, and drops what is behind them.
+/// Drops the gone entries and renews the others, which become one chain on the right of the root.
 pub fn trim_cells(cells: &mut Vec<Entry>)
     ensures after { cells.new.items ≡ trimmed cells.old.items }
     ensures kept { vec_capacity cells.new ≡ vec_capacity cells.old }
