@@ -3,8 +3,8 @@ ghost use Rattle.event_file.specs.Answers.{ReadAnswer, RefileAnswer};
 ghost use Rattle.filing.specs.Ordered.{type_of};
 
 use crate::order::Order;
-use event_file::{FileView, Reason, Refiled, Unread, refile};
-use events::{AuthorFirst, BookFault, NumberFirst};
+use event_file::{FileView, Refiled, Unread, refile};
+use events::{AuthorFirst, NumberFirst};
 use std::alloc::{AllocError, Global};
 
 // Reads bytes for an order.
@@ -34,12 +34,9 @@ pub fn answer_told(heap: Global, bytes: Vec<u8>, order: Order) -> Result<String,
             let count = view.count();
             format!(in heap; "{count} events")
         }
-        Err(unread) => match unread.reason {
-            Reason::Fault(fault) => {
-                let refusal = BookFault::Event(fault);
-                format!(in heap; "{refusal}")
-            }
-            Reason::NoMemory => String::from_str(heap, "no memory"),
-        },
+        Err(unread) => {
+            let reason = unread.reason;
+            format!(in heap; "{reason}")
+        }
     }
 }

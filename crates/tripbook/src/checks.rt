@@ -1,19 +1,18 @@
 //! The command check: is a file sound?
 use anyhow::anyhow;
 use event_file::{Reason, Unread};
-use events::BookFault;
 use filing::{own_order, read_for};
 use std::fs;
 
 // Prints why bytes were not read, and ends the command.
 pub fn refuse(rt: &HostRuntime, unread: Unread) -> anyhow::Result<()> {
-    match unread.reason {
-        Reason::Fault(fault) => {
-            let refusal = BookFault::Event(fault);
-            println!(rt; "{refusal}")?;
+    let reason = unread.reason;
+    match reason {
+        Reason::Fault(_) => {
+            println!(rt; "{reason}")?;
             Err(anyhow!("the file was not read"))
         }
-        Reason::NoMemory => Err(anyhow!("no memory")),
+        Reason::NoMemory => Err(anyhow!("{reason}")),
     }
 }
 
