@@ -1,12 +1,11 @@
 -- What the difference says of one event against others, and of a version against none.
-use Rattle.std.proofs.Common.{◌≡◌, ℕ, zero, suc, ◌+◌, ◌-◌, ◌<◌, ◌≤◌, ◌↔◌, List, [], ◌∷◌, length, get_or, take, drop, Some, sym, refl, ap, ◌∙◌, subst, inl, inr, arith}
+use Rattle.std.proofs.Common.{◌≡◌, ℕ, zero, suc, ◌-◌, ◌<◌, ◌≤◌, ◌↔◌, List, [], ◌∷◌, length, get_or, take, drop, Some, sym, refl, ap, ◌∙◌, subst, inl, inr, arith}
 use Rattle.std.specs.List.{slice_get}
-use Rattle.std.proofs.lemmas.List.{get_or-drop, length-drop, take_rest}
-use Rattle.std.proofs.lemmas.Option.{slice_get-get_or}
+use Rattle.std.proofs.lemmas.List.{take_rest}
 use Rattle.events.specs.Parts.{StoredEvent}
 use Rattle.versions.specs.Versions.{Head, InVersion, head, parent, OnlyIn}
 use Rattle.versions.specs.Difference.{Known, Differ}
-use Rattle.versions.specs.Questions.{Covered, OneBehind}
+use Rattle.versions.specs.Questions.{OneBehind}
 use Rattle.versions.proofs.Sets.{some_is, nth_below}
 
 none_head : (x k : ℕ) → slice_get [] k ≡ Some x → ⊥
@@ -43,44 +42,44 @@ module _ {es : List StoredEvent} where
   from_head y h (head {x} (suc k, e) l) = absurd (none_head x k e)
   from_head y h (parent i p) = parent (from_head y h i) p
 
--- the list from a place on
-pub head_rest : (xs : List ℕ) (m y : ℕ) → Head (take (length xs - m) (drop m xs)) y → (j : ℕ) × (m ≤ j) × (slice_get xs j ≡ Some y)
-head_rest xs m y h =
-    let at : slice_get (drop m xs) h.0 ≡ Some y = ap (λ l. slice_get l h.0) (sym (take_rest xs m)) ∙ h.1 in
-    let low = nth_below (drop m xs) h.0 y at in
-    let is : get_or (drop m xs) h.0 0 ≡ y = some_is (sym (slice_get-get_or (drop m xs) h.0 0 low) ∙ at) in (
-      m + h.0,
-      omega arith,
-      slice_get-get_or xs (m + h.0) 0 (omega (arith, length-drop m xs)) ∙ ap (λ z. Some z) (sym (get_or-drop m xs h.0 0) ∙ is),
-    )
+-- the list is its first event and those behind it
+abbrev pub later : List ℕ → List ℕ
+later xs = take (length xs - 1) (drop 1 xs)
 
-rest_head : (xs : List ℕ) (m j y : ℕ) → m ≤ j → slice_get xs j ≡ Some y → Head (take (length xs - m) (drop m xs)) y
-rest_head xs m j y le at =
-    let low = nth_below xs j y at in
-    let is : get_or xs j 0 ≡ y = some_is (sym (slice_get-get_or xs j 0 low) ∙ at) in
-    let z : m + (j - m) ≡ j = omega arith in (
-      j - m,
-      ap (λ l. slice_get l (j - m)) (take_rest xs m)
-          ∙ slice_get-get_or (drop m xs) (j - m) 0 (omega (arith, length-drop m xs))
-          ∙ ap (λ v. Some v) (get_or-drop m xs (j - m) 0 ∙ ap (λ i. get_or xs i 0) z ∙ is),
-    )
+split : (xs : List ℕ) → 1 ≤ length xs → xs ≡ get_or xs 0 0 ∷ later xs
+split [] l = absurd (omega arith)
+split (x ∷ xs) l = ap (λ ys. x ∷ ys) (sym (take_rest (x ∷ xs) 1))
 
-module _ (es : List StoredEvent) (xs out new : List ℕ) (k a b : ℕ) (below : k < length xs) (d : Differ es (get_or xs k 0 ∷ []) (take (length xs - (k + 1)) (drop (k + 1) xs)) out new a b) where
-  own : InVersion es (get_or xs k 0 ∷ []) (get_or xs k 0)
-  own = head (0, refl) (d.known.0 (get_or xs k 0) (0, refl))
+pub known_parts : (count : ℕ) (xs : List ℕ) → 1 ≤ length xs → Known count xs → Known count (get_or xs 0 0 ∷ []) × Known count (later xs)
+known_parts count xs l known =
+    let k = subst (Known count) (split xs l) known in
+    (known_one count (get_or xs 0 0) (k (get_or xs 0 0) (0, refl)), λ x h. k x (suc h.0, h.1))
+
+-- the version of the first event against that of those behind it
+module _ (es : List StoredEvent) (xs out new : List ℕ) (a b : ℕ) (some : 1 ≤ length xs) (d : Differ es (get_or xs 0 0 ∷ []) (later xs) out new a b) where
+  own : InVersion es (get_or xs 0 0 ∷ []) (get_or xs 0 0)
+  own = head (0, refl) (d.known.0 (get_or xs 0 0) (0, refl))
 
   pub one_found : a ≡ 0 → OneBehind es xs
-  one_found z = elim (d.first_is (get_or xs k 0) own) [
-    | inl h ↦ absurd (omega (arith, (d.firsts.all (get_or xs k 0) h).1))
+  one_found z = subst (OneBehind es) (sym (split xs some)) (elim (d.first_is (get_or xs 0 0) own) [
+    | inl h ↦ absurd (omega (arith, (d.firsts.all (get_or xs 0 0) h).1))
     | inr h ↦
         let r = from_one h in
-        let j = head_rest xs (k + 1) r.0 r.1 in
-        (k, j.0, get_or xs k 0, r.0, record { apart = omega (arith, j.1); earlier = slice_get-get_or xs k 0 below; later = j.2; behind = r.2 })
-  ]
+        (0, suc r.1.0, get_or xs 0 0, r.0, record { apart = omega arith; earlier = refl; later = r.1.1; behind = r.2 })
+  ])
 
-  pub none_found : (a ≡ 0 → ⊥) → (j x y : ℕ) → Covered es xs k j x y → ⊥
-  none_found nz j x y h =
+  rest_only : (a ≡ 0 → ⊥) → OneBehind es (get_or xs 0 0 ∷ later xs) → OneBehind es (later xs)
+  rest_only nz (zero, zero, x, y, h) = absurd (omega (arith, h.apart))
+  rest_only nz (zero, suc j, x, y, h) =
       let first = d.firsts.only 0 (omega arith) in
-      let is : x ≡ get_or xs k 0 = some_is (sym h.earlier ∙ slice_get-get_or xs k 0 below) in
-      let in' = from_head y (rest_head xs (k + 1) j y (omega (arith, h.apart)) h.later) h.behind in
-      first.1 (within (get_or xs k 0) first.0 (subst (λ v. InVersion es (take (length xs - (k + 1)) (drop (k + 1) xs)) v) is in'))
+      let is : x ≡ get_or xs 0 0 = some_is (sym h.earlier) in
+      absurd (first.1 (within (get_or xs 0 0) first.0 (subst (InVersion es (later xs)) is (from_head y (j, h.later) h.behind))))
+  rest_only nz (suc i, zero, x, y, h) = absurd (omega (arith, h.apart))
+  rest_only nz (suc i, suc j, x, y, h) = (i, j, x, y, record { apart = omega (arith, h.apart); earlier = h.earlier; later = h.later; behind = h.behind })
+
+  pub none_found : (a ≡ 0 → ⊥) → OneBehind es xs → OneBehind es (later xs)
+  none_found nz h = rest_only nz (subst (OneBehind es) (split xs some) h)
+
+pub found_later : (es : List StoredEvent) (xs : List ℕ) → 1 ≤ length xs → OneBehind es (later xs) → OneBehind es xs
+found_later es xs some (i, j, x, y, h) =
+    subst (OneBehind es) (sym (split xs some)) (suc i, suc j, x, y, record { apart = omega (arith, h.apart); earlier = h.earlier; later = h.later; behind = h.behind })

@@ -11,12 +11,7 @@ use stores::EventStore;
 fn unknown_head(heads: &[u16], count: usize) -> Option<usize>
     ensures answer { FirstUnknown count heads.now result }
 {
-    for (k, head) in heads.iter().enumerate() {
-        if *head as usize >= count {
-            return Some(k);
-        }
-    }
-    None
+    heads.iter().position(|head| *head as usize >= count)
 }
 
 // Copies the events of the second version alone behind those of the first alone.

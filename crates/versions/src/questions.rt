@@ -17,11 +17,13 @@ pub fn one_behind_another<S: EventStore>(
     ensures answer { Answered (Refused (length (S.EventStore.events store.now)) (S.EventStore.room store.now) parents.now [] (length work.old) (length out.old)) (OneBehind (S.EventStore.events store.now) parents.now) result }
 {
     admit(store, parents, &[], work.len(), out.len())?;
-    for k in 0..parents.len() {
-        let (alone, _) = differing(store, &[parents[k]], &parents[k + 1..], work, out);
+    let mut rest = parents;
+    while let [parent, later @ ..] = rest {
+        let (alone, _) = differing(store, &[*parent], later, work, out);
         if alone == 0 {
             return Ok(true);
         }
+        rest = later;
     }
     Ok(false)
 }

@@ -3,7 +3,7 @@ ghost use Rattle.std.specs.Prelude.{◌<◌};
 
 use crate::differ::difference;
 use crate::questions::{contains_all_below, one_behind_another};
-use events::{BookFault, Deed, Event, Name, Position};
+use events::{Deed, Event, Name, Position};
 use std::test::Fail;
 use stores::{EventStore, MemoryStore};
 
@@ -30,34 +30,17 @@ fn two_branches(store: &mut MemoryStore) {
     append(store, 4, &[2, 3]);
 }
 
-// The counts, or the number of the refusal in the place of both.
-fn counts(r: Result<(usize, usize), BookFault>) -> (usize, usize) {
-    match r {
-        Ok(n) => n,
-        Err(fault) => (fault.number() as usize, fault.number() as usize),
-    }
-}
-
-fn says(r: Result<bool, BookFault>) -> bool {
-    match r {
-        Ok(answer) => answer,
-        Err(_) => false,
-    }
-}
-
 #[test]
 fn branches_differ(rt: HostRuntime) -> Result<(), Fail> {
     let mut store = MemoryStore::with_capacity(rt.alloc(), 5)?;
     two_branches(&mut store);
     let mut work = [1; 20];
     let mut out = [9; 5];
-    let (first, second) = counts(difference(&store, &[3, 3], &[2], &mut work, &mut out));
-    assert_eq!(rt; first, 2);
-    assert_eq!(rt; second, 1);
+    let counts = difference(&store, &[3, 3], &[2], &mut work, &mut out);
+    assert_eq!(rt; counts.map_err(|fault| fault.number()), Ok((2, 1)));
     assert_eq!(rt; out, [3, 1, 2, 9, 9]);
-    let (first, second) = counts(difference(&store, &[2], &[4], &mut work, &mut out));
-    assert_eq!(rt; first, 0);
-    assert_eq!(rt; second, 3);
+    let counts = difference(&store, &[2], &[4], &mut work, &mut out);
+    assert_eq!(rt; counts.map_err(|fault| fault.number()), Ok((0, 3)));
     assert_eq!(rt; out, [4, 3, 1, 9, 9]);
     Ok(())
 }
@@ -68,11 +51,15 @@ fn questions_are_answered(rt: HostRuntime) -> Result<(), Fail> {
     two_branches(&mut store);
     let mut work = [4_294_967_295; 20];
     let mut out = [0; 5];
-    assert!(rt; says(one_behind_another(&store, &[1, 2, 3], &mut work, &mut out)));
-    assert!(rt; !says(one_behind_another(&store, &[2, 3], &mut work, &mut out)));
-    assert!(rt; says(contains_all_below(&store, &[2, 3], 4, &mut work, &mut out)));
-    assert!(rt; !says(contains_all_below(&store, &[3], 3, &mut work, &mut out)));
-    let (refusal, _) = counts(difference(&store, &[1, 5], &[], &mut work, &mut out));
-    assert_eq!(rt; refusal, 9);
+    let behind = one_behind_another(&store, &[1, 2, 3], &mut work, &mut out);
+    assert_eq!(rt; behind.map_err(|fault| fault.number()), Ok(true));
+    let behind = one_behind_another(&store, &[2, 3], &mut work, &mut out);
+    assert_eq!(rt; behind.map_err(|fault| fault.number()), Ok(false));
+    let all = contains_all_below(&store, &[2, 3], 4, &mut work, &mut out);
+    assert_eq!(rt; all.map_err(|fault| fault.number()), Ok(true));
+    let all = contains_all_below(&store, &[3], 3, &mut work, &mut out);
+    assert_eq!(rt; all.map_err(|fault| fault.number()), Ok(false));
+    let counts = difference(&store, &[1, 5], &[], &mut work, &mut out);
+    assert_eq!(rt; counts.map_err(|fault| fault.number()), Err(9));
     Ok(())
 }

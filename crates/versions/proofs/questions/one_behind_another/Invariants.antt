@@ -1,7 +1,15 @@
 -- No event passed so far is behind a later one.
-use Rattle.std.proofs.Common.{◌≡◌, ℕ, ◌<◌, length}
-use Rattle.versions.specs.Questions.{Covered}
+use Rattle.std.proofs.Common.{length}
+use Rattle.versions.specs.Difference.{Known}
+use Rattle.versions.specs.Questions.{OneBehind}
 use Rattle.versions.proofs.questions.one_behind_another.Given as goal
 
-abbrev pub invariant-loop-k : goal.invariant-loop-k
-invariant-loop-k g l = ((i j x y : ℕ) → i < l.k → Covered (g.S.EventStore.events l.store) l.parents i j x y → ⊥) × (length l.work ≡ length l.initial.work) × (length l.out ≡ length l.initial.out)
+abbrev pub invariant-loop-rest : goal.invariant-loop-rest
+invariant-loop-rest g l = record {
+  known : Known (length (g.S.EventStore.events l.store)) l.rest;
+  left : OneBehind (g.S.EventStore.events l.store) l.parents → OneBehind (g.S.EventStore.events l.store) l.rest;
+  found : OneBehind (g.S.EventStore.events l.store) l.rest → OneBehind (g.S.EventStore.events l.store) l.parents;
+}
+
+abbrev pub decreases-loop-rest : goal.decreases-loop-rest
+decreases-loop-rest g l = length l.rest
