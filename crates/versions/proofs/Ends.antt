@@ -2,7 +2,7 @@
 use Rattle.std.proofs.Common.{◌≡◌, ℕ, ◌+◌, ◌-◌, ◌<◌, ◌≤◌, List, length, get_or, drop, ◌∙◌, arith}
 use Rattle.events.specs.Parts.{StoredEvent}
 use Rattle.events.specs.WellFormed.{WellFormed}
-use Rattle.versions.specs.declared.search.Search.{Search}
+use Rattle.versions.specs.declared.counters.Counters.{Counters}
 use Rattle.versions.specs.Marks.{one_sided}
 use Rattle.versions.specs.Searches.{marks, Stage}
 use Rattle.versions.specs.Difference.{Known, Differ}
@@ -11,7 +11,7 @@ use Rattle.versions.proofs.Queues.{share, sided_first, sided_second}
 use Rattle.versions.proofs.Found.{found_moved}
 use Rattle.versions.proofs.Starts.{drop_further}
 
-pub ended : (es : List StoredEvent) → WellFormed es → (first second w start out new : List ℕ) (s : Search) (bound : ℕ) → Known (length es) first → Known (length es) second → Stage es first second w out s bound → s.pending ≡ 0 → drop s.first out ≡ drop s.first start → ((i : ℕ) → i < s.first → get_or new i 0 ≡ get_or out i 0) → ((i : ℕ) → i < s.second → get_or new (s.first + i) 0 ≡ get_or w (s.room - 1 - i) 0) → drop (s.first + s.second) new ≡ drop (s.first + s.second) out → Differ es first second start new s.first s.second
+pub ended : (es : List StoredEvent) → WellFormed es → (first second w start out new : List ℕ) (s : Counters) (bound : ℕ) → Known (length es) first → Known (length es) second → Stage es first second w out s bound → s.pending ≡ 0 → drop s.first out ≡ drop s.first start → ((i : ℕ) → i < s.first → get_or new i 0 ≡ get_or out i 0) → ((i : ℕ) → i < s.second → get_or new (s.first + i) 0 ≡ get_or w (s.room - 1 - i) 0) → drop (s.first + s.second) new ≡ drop (s.first + s.second) out → Differ es first second start new s.first s.second
 ended es fit first second w start out new s bound p q st none kept front back rest = record {
   known = (p, q);
   firsts =

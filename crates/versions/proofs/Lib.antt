@@ -3,6 +3,7 @@ mod Joins
 mod Cells
 mod Counts
 mod Queues
+mod Told
 mod Noted
 mod Sets
 mod Taken

@@ -1,11 +1,11 @@
 -- What marking one event leaves, whether it had a mark or not.
-use Rattle.std.proofs.Common.{◌≡◌, ℕ, ◌+◌, ◌-◌, ◌*◌, ◌<◌, ◌≤◌, cond, not, ◌&&◌, eqb, ltb, List, [], ◌∷◌, ◌++◌, length, get_or, take, set, sum_by, sym, refl, ap, ◌∙◌, inl, inr, arith}
+use Rattle.std.proofs.Common.{◌≡◌, ℕ, ◌+◌, ◌-◌, ◌*◌, ◌<◌, ◌≤◌, cond, not, ◌&&◌, eqb, ltb, List, [], ◌∷◌, ◌++◌, length, get_or, take, set, sum_by, sym, refl, ap, ◌∙◌, subst, inl, inr, arith}
 use Rattle.std.proofs.lemmas.List.{get_or-set_same, get_or-set_other, take-set-le, length-set}
 use Rattle.std.proofs.lemmas.List.Sums.{sum_by_push}
 use Rattle.std.proofs.lemmas.List.Sorted.{sum_by-IsPermutation}
 use Rattle.std.proofs.lemmas.Bool.{cases_eq, eq-eqb, ne_eqb, lt-ltb}
 use Rattle.queue.specs.Heaps.{Pushed}
-use Rattle.versions.specs.declared.search.Search.{Search}
+use Rattle.versions.specs.declared.counters.Counters.{Counters}
 use Rattle.versions.specs.Marks.{one_sided, join}
 use Rattle.versions.specs.Searches.{marks, copies, open_in, Listed, Queued, Noted}
 use Rattle.versions.proofs.Joins.{join_some, spread_one}
@@ -13,25 +13,17 @@ use Rattle.versions.proofs.Cells.{mark_changed, mark_new}
 use Rattle.versions.proofs.Counts.{marked_same, marked_more, marked_lt, change_none, change_one, hit_yes, hit_no}
 use Rattle.versions.proofs.Queues.{at_behind, seen_le, once_in, once_out, heaped_same, share}
 
-abbrev pub again : Search → ℕ → Search
+abbrev pub again : Counters → ℕ → Counters
 again s p = record { room = s.room; seen = s.seen; queued = s.queued; pending = p; first = s.first; second = s.second }
 
-abbrev pub more : Search → ℕ → Search
+abbrev pub more : Counters → ℕ → Counters
 more s p = record { room = s.room; seen = s.seen + 1; queued = s.queued + 1; pending = p; first = s.first; second = s.second }
 
 -- an event without a mark leaves room for one more
-pub room_left : (w : List ℕ) (s : Search) (e : ℕ) → Listed w s → e < s.room → marks w s e ≡ 0 → s.seen < s.room
+pub room_left : (w : List ℕ) (s : Counters) (e : ℕ) → Listed w s → e < s.room → marks w s e ≡ 0 → s.seen < s.room
 room_left w s e l in' none = omega (arith, l.seen, marked_lt (marks w s) s.room e in' none)
 
--- the count of what is pending, where one mark changes
-pub recounted : (w : List ℕ) (s : Search) (e m old t x y bound : ℕ) → Listed w s → e < bound → Queued w s bound → old ≡ marks w s e → t ≡ join old m → x ≡ one_sided t → y ≡ one_sided old → (y ≤ s.pending + x) × ((s.pending + x) - y + one_sided (marks w s e) ≡ s.pending + one_sided (join (marks w s e) m))
-recounted w s e m old t x y bound l low q o j a b =
-    let le = share w s l bound q e low in
-    let f : one_sided old ≡ one_sided (marks w s e) = ap one_sided o in
-    let g : one_sided t ≡ one_sided (join (marks w s e) m) = ap one_sided (j ∙ ap (λ z. join z m) o) in
-    (omega arith, omega arith)
-
-module _ (w : List ℕ) (s : Search) (e m p : ℕ) (l : Listed w s) (in' : e < s.room) (nz : m ≡ 0 → ⊥) where
+module _ (w : List ℕ) (s : Counters) (e m p : ℕ) (l : Listed w s) (in' : e < s.room) (nz : m ≡ 0 → ⊥) where
   -- it had a mark
   module _ (some : marks w s e ≡ 0 → ⊥) (is : p + one_sided (marks w s e) ≡ s.pending + one_sided (join (marks w s e) m)) where
     abbrev changed : List ℕ
@@ -196,3 +188,28 @@ module _ (w : List ℕ) (s : Search) (e m p : ℕ) (l : Listed w s) (in' : e < s
         };
         kept = λ k a b. behind k a ∙ cell_other k 0 (λ z. omega arith) (λ z. omega arith) (λ z. omega arith);
       }
+
+-- the writes that mark an event m which had no mark, before it is queued
+abbrev pub put : List ℕ → Counters → ℕ → ℕ → List ℕ
+put w s e m = set (set (set w (3 * s.room + e) m) (s.room + e) s.seen) (2 * s.room + s.seen) e
+
+pub put_length : (w : List ℕ) (s : Counters) (e m : ℕ) → length (put w s e m) ≡ length w
+put_length w s e m = simp length-set
+
+-- what the calls leave, by the numbers that they write
+module _ (w : List ℕ) (s : Counters) (e m bound : ℕ) (l : Listed w s) (in' : e < s.room) (nz : m ≡ 0 → ⊥) (low : e < bound) (q : Queued w s bound) where
+  -- the share of the old mark is in the count
+  pub share_in : (x y : ℕ) → y ≡ one_sided (marks w s e) → y ≤ s.pending + x
+  share_in x y is = omega (arith, is, share w s l bound q e low)
+
+  pub remarked : (t x y : ℕ) → (marks w s e ≡ 0 → ⊥) → t ≡ join (marks w s e) m → x ≡ one_sided t → y ≡ one_sided (marks w s e) → Noted (λ z. z ≡ e) m w s (set w (3 * s.room + e) t) (again s ((s.pending + x) - y))
+  remarked t x y some is alone old =
+      let le = share_in x y old in
+      let sided : x ≡ one_sided (join (marks w s e) m) = alone ∙ ap one_sided is in
+      subst (λ n. Noted (λ z. z ≡ e) m w s (set w (3 * s.room + e) n) (again s ((s.pending + x) - y))) (sym is) (noted_again w s e m ((s.pending + x) - y) l in' nz some (omega arith))
+
+  pub marked_first : (v : List ℕ) (x : ℕ) → marks w s e ≡ 0 → length v ≡ length (put w s e m) → x ≡ one_sided m → Pushed (λ a b. ltb b a) (put w s e m) s.queued e v → Noted (λ z. z ≡ e) m w s v (more s (s.pending + x))
+  marked_first v x none level alone pushed =
+      let is : m ≡ join (marks w s e) m = sym (rw (eq-eqb (marks w s e) 0 none)) in
+      noted_more w s e m (s.pending + x) l in' nz none v (level ∙ put_length w s e m) (omega (arith, alone, ap one_sided is))
+      (subst (λ n. Pushed (λ a b. ltb b a) (put w s e n) s.queued e v) is pushed)

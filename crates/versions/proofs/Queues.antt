@@ -4,7 +4,7 @@ use Rattle.std.proofs.lemmas.List.{get_or-drop, length-take-le}
 use Rattle.std.proofs.lemmas.List.Sums.{sum_by-cons}
 use Rattle.std.proofs.lemmas.Bool.{cases_eq, eq-eqb, ne_eqb, lt-ltb, or_from, or_left, or_right}
 use Rattle.queue.specs.Heaps.{Heaped, parent}
-use Rattle.versions.specs.declared.search.Search.{Search}
+use Rattle.versions.specs.declared.counters.Counters.{Counters}
 use Rattle.versions.specs.Marks.{one_sided}
 use Rattle.versions.specs.Searches.{marks, copies, open_in, Listed, Queued}
 use Rattle.versions.proofs.Counts.{marked_le, share_le}
@@ -14,7 +14,7 @@ at_behind w v n k same l =
     let at : n + (k - n) ≡ k = omega arith in
     subst (λ i. get_or v i 0 ≡ get_or w i 0) at (sym (get_or-drop n v (k - n) 0) ∙ ap (λ xs. get_or xs (k - n) 0) same ∙ get_or-drop n w (k - n) 0)
 
-pub seen_le : (w : List ℕ) (s : Search) → Listed w s → s.seen ≤ s.room
+pub seen_le : (w : List ℕ) (s : Counters) → Listed w s → s.seen ≤ s.room
 seen_le w s l = omega (arith, l.seen, marked_le (marks w s) s.room)
 
 pub sided_none : (m : ℕ) → m ≡ 0 → one_sided m ≡ 0
@@ -39,7 +39,7 @@ open_le : (m : ℕ → ℕ) (xs : List ℕ) → open_in m xs ≤ length xs
 open_le m [] = omega arith
 open_le m (x ∷ xs) = omega (arith, open_le m xs, sum_by-cons (λ y. one_sided (m y)) x xs, sided_le (m x))
 
-module _ (w : List ℕ) (s : Search) (l : Listed w s) (bound : ℕ) (q : Queued w s bound) where
+module _ (w : List ℕ) (s : Counters) (l : Listed w s) (bound : ℕ) (q : Queued w s bound) where
   pub pending_le : s.pending ≤ s.queued
   pending_le =
       omega (arith, q.pending, open_le (marks w s) (take s.queued w), length-take-le s.queued w (omega (arith, l.within, seen_le w s l, l.size)))

@@ -4,9 +4,8 @@ use Rattle.std.specs.List.{slice_get}
 use Rattle.std.specs.Option.{option_map, option_flatten}
 use Rattle.std.proofs.lemmas.Bool.{cases_eq}
 use Rattle.events.specs.Parts.{StoredEvent}
-use Rattle.events.specs.WellFormed.{WellFormed}
-use Rattle.stores.specs.Questions.{parent_at}
-use Rattle.versions.specs.declared.search.Search.{Search}
+use Rattle.stores.specs.Questions.{parents_at, parent_at}
+use Rattle.versions.specs.declared.counters.Counters.{Counters}
 use Rattle.versions.specs.Versions.{Head, Parent}
 use Rattle.versions.specs.Searches.{marks, Listed, Noted, Among}
 use Rattle.versions.proofs.Joins.{spread_more}
@@ -17,7 +16,7 @@ some_is e = cc
 none_some : {x : ℕ} → None ≡ Some x → ⊥
 none_some e = let z : ◌≡◌ {A = ℕ} 0 1 = cc in omega arith
 
-module _ {m : ℕ} {w : List ℕ} {s : Search} where
+module _ {m : ℕ} {w : List ℕ} {s : Counters} where
   pub noted_none : (f : ℕ → Option ℕ) → Listed w s → Noted (Among f 0) m w s w s
   noted_none f l = record {
     listed = l;
@@ -35,7 +34,7 @@ module _ {m : ℕ} {w : List ℕ} {s : Search} where
     kept = λ k a b. refl;
   }
 
-  pub noted_step : {v u : List ℕ} {r t : Search} (f : ℕ → Option ℕ) (k e : ℕ) → f k ≡ Some e → Noted (Among f k) m w s v r → Noted (λ x. x ≡ e) m v r u t → Noted (Among f (k + 1)) m w s u t
+  pub noted_step : {v u : List ℕ} {r t : Counters} (f : ℕ → Option ℕ) (k e : ℕ) → f k ≡ Some e → Noted (Among f k) m w s v r → Noted (λ x. x ≡ e) m v r u t → Noted (Among f (k + 1)) m w s u t
   noted_step {v} {u} {r} {t} f k e at a b = record {
     listed = b.listed;
     room = b.room ∙ a.room;
@@ -60,7 +59,7 @@ module _ {m : ℕ} {w : List ℕ} {s : Search} where
       ]
 
   -- the same events, told otherwise
-  pub noted_same : {v : List ℕ} {r : Search} (P Q : ℕ → Type 0) → ((x : ℕ) → P x ↔ Q x) → Noted P m w s v r → Noted Q m w s v r
+  pub noted_same : {v : List ℕ} {r : Counters} (P Q : ℕ → Type 0) → ((x : ℕ) → P x ↔ Q x) → Noted P m w s v r → Noted Q m w s v r
   noted_same P Q same a = record {
     listed = a.listed;
     room = a.room;
@@ -77,12 +76,6 @@ module _ {m : ℕ} {w : List ℕ} {s : Search} where
     kept = a.kept;
   }
 
-  pub noted_skip : {v : List ℕ} {r : Search} (f : ℕ → Option ℕ) (k : ℕ) → f k ≡ None → Noted (Among f k) m w s v r → Noted (Among f (k + 1)) m w s v r
-  noted_skip f k at a = noted_same (Among f k) (Among f (k + 1)) (λ x. (
-    (λ h. (h.0, omega (arith, h.1), h.2)),
-    (λ h. (h.0, elim (cases_eq h.0 k) [ inl q ↦ absurd (none_some (sym at ∙ ap f (sym q) ∙ h.2)) | inr n ↦ omega (arith, h.1) ], h.2)),
-  )) a
-
 pub nth_below : (xs : List ℕ) (n x : ℕ) → slice_get xs n ≡ Some x → n < length xs
 nth_below [] n x h = absurd (none_some h)
 nth_below (y ∷ xs) zero x h = omega arith
@@ -95,11 +88,9 @@ pub from_parents : (o : Option StoredEvent) (k p : ℕ) → option_flatten (opti
 from_parents None k p h = absurd (none_some h)
 from_parents (Some e) k p h = (e, refl, h)
 
--- an event has four parents at most
-pub all_parents : (es : List StoredEvent) → WellFormed es → (y k : ℕ) → 4 ≤ k → (x : ℕ) → Among (parent_at es y) k x ↔ Parent es y x
-all_parents es fit y k four x = (
-  (λ h. (h.0, h.2)),
-  (λ h.
-      let e = from_parents (slice_get es y) h.0 x h.1 in
-      (h.0, omega (arith, nth_below e.0.parents h.0 x e.2, (fit.parents y e.0 e.1).few), h.1)),
-)
+-- the parents of an event, as the list of its parents
+pub parents_are : (es : List StoredEvent) (y : ℕ) (xs : List ℕ) → Some xs ≡ parents_at es y → (x : ℕ) → Head xs x ↔ Parent es y x
+parents_are es y xs is x = ((λ h. (h.0, sym (at h.0) ∙ h.1)), (λ h. (h.0, at h.0 ∙ h.1)))
+  where
+    at : (k : ℕ) → slice_get xs k ≡ parent_at es y k
+    at k = ap (λ o. option_flatten (option_map (λ ps. slice_get ps k) o)) is

@@ -3,7 +3,7 @@ use Rattle.std.proofs.Common.{◌≡◌, ℕ, zero, suc, ◌+◌, ◌-◌, ◌*�
 use Rattle.std.proofs.lemmas.List.{drop-drop}
 use Rattle.std.proofs.lemmas.Bool.{eq-eqb, and_left, le-ltb}
 use Rattle.events.specs.Parts.{StoredEvent}
-use Rattle.versions.specs.declared.search.Search.{Search}
+use Rattle.versions.specs.declared.counters.Counters.{Counters}
 use Rattle.versions.specs.Versions.{Head, head, Enumerates}
 use Rattle.versions.specs.Marks.{Marked, marked_below}
 use Rattle.versions.specs.Searches.{marks, Listed, Queued, Noted, Started, Stage, Knows}
@@ -11,7 +11,7 @@ use Rattle.versions.specs.Difference.{Known}
 use Rattle.versions.proofs.Cells.{mark_out}
 use Rattle.versions.proofs.Counts.{none_one}
 
-abbrev pub bare : ℕ → Search
+abbrev pub bare : ℕ → Counters
 bare room = record { room = room; seen = 0; queued = 0; pending = 0; first = 0; second = 0 }
 
 no_mark : (w : List ℕ) (room x : ℕ) → marks w (bare room) x ≡ 0
@@ -36,7 +36,7 @@ bare_queued w room bound = record {
   pending = refl;
 }
 
-pub started : (room : ℕ) (first second w v u : List ℕ) (r t : Search) → Noted (Head first) 1 w (bare room) v r → Noted (Head second) 2 v r u t → Started room first second u t
+pub started : (room : ℕ) (first second w v u : List ℕ) (r t : Counters) → Noted (Head first) 1 w (bare room) v r → Noted (Head second) 2 v r u t → Started room first second u t
 started room first second w v u r t a b = record {
   listed = b.listed;
   fields = (b.room ∙ a.room, b.found.0 ∙ a.found.0, b.found.1 ∙ a.found.1);
@@ -67,7 +67,7 @@ none_found n at K z not = record {
   all = λ x h. absurd (not x h);
 }
 
-pub first_stage : (es : List StoredEvent) (room : ℕ) (first second w out : List ℕ) (s : Search) → length es ≤ room → Known (length es) first → Known (length es) second → Started room first second w s → Stage es first second w out s (length es)
+pub first_stage : (es : List StoredEvent) (room : ℕ) (first second w out : List ℕ) (s : Counters) → length es ≤ room → Known (length es) first → Known (length es) second → Started room first second w s → Stage es first second w out s (length es)
 first_stage es room first second w out s held p q st =
     let f = st.fields in
     record {

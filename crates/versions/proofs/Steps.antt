@@ -4,7 +4,7 @@ use Rattle.std.proofs.lemmas.List.{get_or-set_same, get_or-set_other, take-set-l
 use Rattle.std.proofs.lemmas.Bool.{cases_eq, cases_lt}
 use Rattle.events.specs.Parts.{StoredEvent}
 use Rattle.events.specs.WellFormed.{WellFormed}
-use Rattle.versions.specs.declared.search.Search.{Search}
+use Rattle.versions.specs.declared.counters.Counters.{Counters}
 use Rattle.versions.specs.Versions.{Parent, parent, Enumerates}
 use Rattle.versions.specs.Marks.{Marked, one_sided}
 use Rattle.versions.specs.Searches.{marks, copies, open_in, Listed, Queued, Taken, Written, Noted, Knows, Stage, Stepped}
@@ -15,14 +15,14 @@ use Rattle.versions.proofs.Queues.{seen_le, heaped_same}
 use Rattle.versions.proofs.Taken.{sum_same}
 use Rattle.versions.proofs.Found.{found_more, found_same, found_moved}
 
-abbrev pub more_first : Search → Search
+abbrev pub more_first : Counters → Counters
 more_first s = record { room = s.room; seen = s.seen; queued = s.queued; pending = s.pending; first = s.first + 1; second = s.second }
 
-abbrev pub more_second : Search → Search
+abbrev pub more_second : Counters → Counters
 more_second s = record { room = s.room; seen = s.seen; queued = s.queued; pending = s.pending; first = s.first; second = s.second + 1 }
 
 -- what stands when the event is written down, and its parents are yet to be marked
-pub record Between (es : List StoredEvent) (w out : List ℕ) (s : Search) (e : ℕ) (v new : List ℕ) (r : Search) : Type 0 where
+pub record Between (es : List StoredEvent) (w out : List ℕ) (s : Counters) (e : ℕ) (v new : List ℕ) (r : Counters) : Type 0 where
   pub listed : Listed v r
   pub queued : Queued v r e
   pub same : (x : ℕ) → marks v r x ≡ marks w s x
@@ -35,7 +35,7 @@ pub record Between (es : List StoredEvent) (w out : List ℕ) (s : Search) (e : 
   pub first : s.first ≤ r.first
   pub kept : drop r.first new ≡ drop r.first out
 
-module _ (es : List StoredEvent) (first second w out : List ℕ) (s : Search) (bound e m : ℕ) (v : List ℕ) (t : Search) (st : Stage es first second w out s bound) (long : length es ≤ length out) (tk : Taken w s v t e m) where
+module _ (es : List StoredEvent) (first second w out : List ℕ) (s : Counters) (bound e m : ℕ) (v : List ℕ) (t : Counters) (st : Stage es first second w out s bound) (long : length es ≤ length out) (tk : Taken w s v t e m) where
   low : e < bound
   low = (tk.queued bound st.queued).0
 
@@ -157,28 +157,28 @@ module _ (es : List StoredEvent) (first second w out : List ℕ) (s : Search) (b
           kept = refl;
         }
 
-  pub between : (u new : List ℕ) (r : Search) → Written v out t e m u new r → Between es w out s e u new r
+  pub between : (u new : List ℕ) (r : Counters) → Written v out t e m u new r → Between es w out s e u new r
   between u new r wr = elim (cases_eq m 1) [
     | inl q ↦
         let h = wr.first q in
         subst (λ (z : List ℕ). Between es w out s e z new r) (sym h.0)
         (subst (λ (z : List ℕ). Between es w out s e v z r) (sym h.1)
-        (subst (λ (z : Search). Between es w out s e v (set out t.first e) z) (sym h.2) (between_first q)))
+        (subst (λ (z : Counters). Between es w out s e v (set out t.first e) z) (sym h.2) (between_first q)))
     | inr a ↦ elim (cases_eq m 2) [
       | inl q ↦
           let h = wr.second q in
           subst (λ (z : List ℕ). Between es w out s e z new r) (sym h.0)
           (subst (λ (z : List ℕ). Between es w out s e (set v (t.room - 1 - t.second) e) z r) (sym h.1)
-          (subst (λ (z : Search). Between es w out s e (set v (t.room - 1 - t.second) e) out z) (sym h.2) (between_second q)))
+          (subst (λ (z : Counters). Between es w out s e (set v (t.room - 1 - t.second) e) out z) (sym h.2) (between_second q)))
       | inr b ↦
           let h = wr.neither a b in
           subst (λ (z : List ℕ). Between es w out s e z new r) (sym h.0)
           (subst (λ (z : List ℕ). Between es w out s e v z r) (sym h.1)
-          (subst (λ (z : Search). Between es w out s e v out z) (sym h.2) (between_neither a b)))
+          (subst (λ (z : Counters). Between es w out s e v out z) (sym h.2) (between_neither a b)))
     ]
   ]
 
-  module _ (fit : WellFormed es) (u new : List ℕ) (r : Search) (bt : Between es w out s e u new r) (x₃ : List ℕ) (s₃ : Search) (nt : Noted (Parent es e) m u r x₃ s₃) where
+  module _ (fit : WellFormed es) (u new : List ℕ) (r : Counters) (bt : Between es w out s e u new r) (x₃ : List ℕ) (s₃ : Counters) (nt : Noted (Parent es e) m u r x₃ s₃) where
     -- the marks from the event up are as they were
     above : (x : ℕ) → e ≤ x → marks x₃ s₃ x ≡ marks w s x
     above x up = nt.spread.others x (λ p. omega (arith, parent_less es fit e x p)) ∙ bt.same x

@@ -5,14 +5,14 @@ use Rattle.std.proofs.lemmas.List.Sums.{sum_by-cons, sum_by_push}
 use Rattle.std.proofs.lemmas.List.Sorted.{sum_by-IsPermutation}
 use Rattle.std.proofs.lemmas.Bool.{cases_eq, cases_lt, eq-eqb, lt-ltb, le-ltb, ltb-false, and_right}
 use Rattle.queue.specs.Heaps.{Popped}
-use Rattle.versions.specs.declared.search.Search.{Search}
+use Rattle.versions.specs.declared.counters.Counters.{Counters}
 use Rattle.versions.specs.Marks.{one_sided}
 use Rattle.versions.specs.Searches.{marks, copies, Listed, Queued, Taken}
 use Rattle.versions.proofs.Cells.{mark_kept, mark_some}
 use Rattle.versions.proofs.Counts.{marked_same, hit_yes, hit_no}
 use Rattle.versions.proofs.Queues.{at_behind, seen_le, once_in}
 
-abbrev pub fewer : Search → ℕ → Search
+abbrev pub fewer : Counters → ℕ → Counters
 fewer s p = record { room = s.room; seen = s.seen; queued = s.queued - 1; pending = p; first = s.first; second = s.second }
 
 pub sum_same : (f g : ℕ → ℕ) → ((x : ℕ) → g x ≡ f x) → (xs : List ℕ) → sum_by g xs ≡ sum_by f xs
@@ -28,7 +28,7 @@ place_of x (y ∷ ys) l = elim (cases_eq y x) [
       (suc r.0, omega (arith, r.1), r.2)
 ]
 
-module _ (w v : List ℕ) (s : Search) (e p : ℕ) (l : Listed w s) (level : length v ≡ length w) (pos : 0 < s.queued) (got : Popped (λ a b. ltb b a) w s.queued e v) where
+module _ (w v : List ℕ) (s : Counters) (e p : ℕ) (l : Listed w s) (level : length v ≡ length w) (pos : 0 < s.queued) (got : Popped (λ a b. ltb b a) w s.queued e v) where
   behind : (k : ℕ) → s.queued ≤ k → get_or v k 0 ≡ get_or w k 0
   behind k b = at_behind w v s.queued k got.behind b
 

@@ -1,10 +1,22 @@
 -- Marks: in which of two versions an event is known to be. The first has 1, the second 2, both any other but 0.
 --     Marked     a mark says that the event is in a version, told by the mark of the other alone
+--     number_of  the number of a mark in a cell of a work list
+--     told       the mark that the number in a cell tells
 --     join       the mark of what two marks say
 --     one_sided      1 for a mark of one version alone, else 0
 --     mark_in     the mark of an event in a work list
 --     Spread     marks that were joined to those of some events
-use Rattle.std.specs.Prelude.{◌≡◌, ℕ, zero, suc, ◌+◌, ◌*◌, ◌<◌, cond, ◌&&◌, ◌||◌, ◌⊎◌, List, ◌==◌, ◌≢◌, nat_lt, slice_index}
+use Rattle.std.specs.Prelude.{◌≡◌, ℕ, zero, suc, ◌+◌, ◌*◌, ◌<◌, cond, Some, None, Option, ◌&&◌, ◌||◌, ◌⊎◌, List, ◌==◌, ◌≢◌, nat_lt, slice_index}
+use Rattle.versions.specs.declared.marks.Mark.{Mark}
+use Rattle.versions.specs.declared.marks.Mark.TheVariants.{First, Second, Both}
+
+abbrev pub number_of : Mark → ℕ
+number_of First = 1
+number_of Second = 2
+number_of Both = 3
+
+abbrev pub told : ℕ → Option Mark
+told m = cond (m == 0) None (cond (m == 1) (Some First) (cond (m == 2) (Some Second) (Some Both)))
 
 -- neither no mark nor that of the other version alone
 abbrev pub Marked : ℕ → ℕ → Type 0

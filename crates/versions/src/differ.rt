@@ -15,14 +15,16 @@ fn unknown_head(heads: &[u16], count: usize) -> Option<usize>
 }
 
 // Copies the events of the second version alone behind those of the first alone.
-fn copy_back(work: &[u32], out: &mut [u32], s: Search)
-    requires { (s.first + s.second ≤ length out.old) × ((s.second ≤ s.room) × (s.room ≤ length work.now)) }
-    ensures after { (i : ℕ) → i < s.second → slice_index out.new (s.first + i) ≡ slice_index work.now (s.room - 1 - i) }
-    ensures kept { (((i : ℕ) → i < s.first → slice_index out.new i ≡ slice_index out.old i)) × (drop (s.first + s.second) out.new ≡ drop (s.first + s.second) out.old) }
+fn copy_back(found: &Search<'_>, out: &mut [u32])
+    requires { (found.now.counters.first + found.now.counters.second ≤ length out.old) × (found.now.counters.second ≤ found.now.counters.room) }
+    ensures after { (i : ℕ) → i < found.now.counters.second → slice_index out.new (found.now.counters.first + i) ≡ slice_index found.now.work.now (found.now.counters.room - 1 - i) }
+    ensures front { (i : ℕ) → i < found.now.counters.first → slice_index out.new i ≡ slice_index out.old i }
+    ensures rest { drop (found.now.counters.first + found.now.counters.second) out.new ≡ drop (found.now.counters.first + found.now.counters.second) out.old }
 {
-    for i in 0..s.second {
-        out[s.first + i] = work[s.room - 1 - i];
-    }
+    let s = found.counters;
+    let second = &mut out[s.first..s.first + s.second];
+    second.copy_from_slice(&found.work[s.room - s.second..s.room]);
+    second.reverse();
 }
 
 // Whether the lists are long enough and the heads are events, or why a call is refused.
@@ -64,8 +66,9 @@ pub(crate) fn differing<S: EventStore>(
     requires known { (Known (length (S.EventStore.events store.now)) first.now) × (Known (length (S.EventStore.events store.now)) second.now) }
     ensures answer { Differ (S.EventStore.events store.now) first.now second.now out.old out.new result.0 result.1 }
 {
-    let s = search(store, first, second, work, out);
-    copy_back(work, out, s);
+    let found = search(store, first, second, work, out);
+    copy_back(&found, out);
+    let s = found.counters;
     (s.first, s.second)
 }
 

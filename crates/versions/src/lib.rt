@@ -1,6 +1,7 @@
 //! Versions of a store: what is in the one and not in the other.
 #![tactic(auto)]
 
+pub(crate) mod counters;
 pub mod differ;
 pub(crate) mod marks;
 pub(crate) mod noting;

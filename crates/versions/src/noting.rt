@@ -1,45 +1,76 @@
-//! Marking the heads of a version, and the parents of an event.
-ghost use Rattle.std.specs.Prelude.{◌≡◌, ℕ, ◌<◌, ◌≤◌, ◌≢◌};
+//! Marking an event, the heads of a version, and the parents of an event.
+ghost use Rattle.std.specs.Prelude.{◌≡◌, ℕ, ◌<◌, ◌≤◌};
 ghost use Rattle.versions.specs.Versions.{Head, Parent};
-ghost use Rattle.versions.specs.Searches.{Listed, Noted, Queued};
+ghost use Rattle.versions.specs.Marks.{number_of, told};
+ghost use Rattle.versions.specs.Searches.{Noted, Queued, marks};
 ghost use Rattle.versions.specs.Difference.{Known};
 
-use crate::marks::note;
+use crate::counters::Counters;
+use crate::marks::Mark;
 use crate::search::Search;
+use queue::heap::push;
+use queue::order::LatestFirst;
 use stores::EventStore;
 
-// Marks the heads of a version, and queues those that had no mark.
-pub(crate) fn note_heads(work: &mut [u32], s: Search, heads: &[u16], mark: u32) -> Search
-    requires listed { Listed work.old s }
-    requires queued { (bound : ℕ) × (bound ≤ s.room) × Known bound heads.now × Queued work.old s bound }
-    requires marked { mark ≢ 0 }
-    ensures after { Noted (Head heads.now) mark work.old s work.new result }
-{
-    let mut noted = s;
-    for head in heads {
-        noted = note(work, noted, *head as usize, mark);
-    }
-    noted
-}
-
-// Marks the parents of an event, of which there are four at most, and queues those that had no mark.
-pub(crate) fn note_parents<S: EventStore>(
-    store: &S,
-    work: &mut [u32],
-    s: Search,
-    event: usize,
-    mark: u32,
-) -> Search
-    requires listed { Listed work.old s }
-    requires queued { Queued work.old s event }
-    requires marked { (event < s.room) × (mark ≢ 0) }
-    ensures after { Noted (Parent (S.EventStore.events store.now) event) mark work.old s work.new result }
-{
-    let mut noted = s;
-    for k in 0..4 {
-        if let Some(parent) = store.parent(event, k) {
-            noted = note(work, noted, parent as usize, mark);
+impl Search<'_> {
+    // The mark of an event, if it has one.
+    pub(crate) fn mark_of(&self, event: usize) -> Option<Mark>
+        requires { event < self.now.counters.room }
+        ensures answer { result ≡ told (marks self.now.work.now self.now.counters event) }
+    {
+        let s = self.counters;
+        let place = self.work[s.room + event] as usize;
+        if place < s.seen && self.work[2 * s.room + place] as usize == event {
+            Mark::from_number(self.work[3 * s.room + event])
+        } else {
+            None
         }
     }
-    noted
+
+    // Marks an event besides, and queues it where it had no mark.
+    pub(crate) fn note(&mut self, event: usize, mark: Mark)
+        requires queued { (bound : ℕ) × (event < bound) × Queued self.old.work.now self.old.counters bound }
+        requires inside { event < self.old.counters.room }
+        ensures after { Noted (λ x. x ≡ event) (number_of mark) self.old.work.now self.old.counters self.new.work.now self.new.counters }
+    {
+        let s = self.counters;
+        if let Some(old) = self.mark_of(event) {
+            let new = old.join(mark);
+            self.work[3 * s.room + event] = new.number();
+            self.counters.pending = s.pending + new.alone() - old.alone();
+            return;
+        }
+        let work = &mut *self.work;
+        work[3 * s.room + event] = mark.number();
+        work[s.room + event] = s.seen as u32;
+        work[2 * s.room + s.seen] = event as u32;
+        let _ = push(work, s.queued, event as u32, &LatestFirst);
+        self.counters = Counters {
+            seen: s.seen + 1,
+            queued: s.queued + 1,
+            pending: s.pending + mark.alone(),
+            ..s
+        };
+    }
+
+    // Marks events, as the heads of a version, and queues those that had no mark.
+    pub(crate) fn note_all(&mut self, events: &[u16], mark: Mark)
+        requires queued { (bound : ℕ) × (bound ≤ self.old.counters.room) × Known bound events.now × Queued self.old.work.now self.old.counters bound }
+        ensures after { Noted (Head events.now) (number_of mark) self.old.work.now self.old.counters self.new.work.now self.new.counters }
+    {
+        for event in events {
+            self.note(*event as usize, mark);
+        }
+    }
+
+    // Marks the parents of an event, and queues those that had no mark.
+    pub(crate) fn note_parents<S: EventStore>(&mut self, store: &S, event: usize, mark: Mark)
+        requires queued { Queued self.old.work.now self.old.counters event }
+        requires inside { event < self.old.counters.room }
+        ensures after { Noted (Parent (S.EventStore.events store.now) event) (number_of mark) self.old.work.now self.old.counters self.new.work.now self.new.counters }
+    {
+        if let Some(parents) = store.parents(event) {
+            self.note_all(parents.as_slice(), mark);
+        }
+    }
 }

@@ -1,17 +1,11 @@
-//! The counters of a search from two heads.
+//! A search from two heads: the work list that the caller lent, and the counters that tell what it holds.
+ghost use Rattle.versions.specs.Searches.{Listed};
 
-#[derive(Clone, Copy)]
-pub(crate) struct Search {
-    // how many cells each area of the work list has
-    pub(crate) room: usize,
-    // how many events have a mark
-    pub(crate) seen: usize,
-    // how many of them are queued
-    pub(crate) queued: usize,
-    // how many of those are in one version alone, as far as is known
-    pub(crate) pending: usize,
-    // how many events were found in the first version alone
-    pub(crate) first: usize,
-    // and how many in the second alone
-    pub(crate) second: usize,
+use crate::counters::Counters;
+
+#[derive(Drop)]
+pub(crate) struct Search<'a> {
+    pub(crate) work: &'a mut [u32],
+    pub(crate) counters: Counters,
+    ghost listed: { Listed work.now counters },
 }

@@ -1,62 +1,48 @@
 //! One step of a search: the latest event of the queue.
-ghost use Rattle.std.specs.Prelude.{◌≡◌, ℕ, ◌+◌, ◌<◌, ◌≤◌, length};
-ghost use Rattle.versions.specs.Searches.{Listed, Queued, Taken, Written};
+ghost use Rattle.std.specs.Prelude.{◌≡◌, ℕ, ◌<◌, length, Some};
+ghost use Rattle.versions.specs.Marks.{number_of, told};
+ghost use Rattle.versions.specs.Searches.{Queued, Taken, Written, marks};
 
-use crate::marks::{FIRST, SECOND, alone, mark_of};
+use crate::marks::Mark;
 use crate::search::Search;
 use queue::heap::pop;
 use queue::order::LatestFirst;
 
-// Takes the latest event from the queue, with its mark. Something is queued, since something is pending.
-pub(crate) fn take_latest(work: &mut [u32], s: Search) -> (u32, u32, Search)
-    requires listed { Listed work.old s }
-    requires queued { (((bound : ℕ) × Queued work.old s bound)) × (0 < s.pending) }
-    ensures after { Taken work.old s work.new result.2 result.0 result.1 }
-{
-    let Some(event) = pop(work, s.queued, &LatestFirst) else {
-        return (0, 0, s);
-    };
-    let queued = s.queued - 1;
-    let mark = mark_of(work, Search { queued, ..s }, event as usize);
-    let pending = s.pending - alone(mark);
-    (
-        event,
-        mark,
-        Search {
-            queued,
-            pending,
-            ..s
-        },
-    )
-}
+impl Search<'_> {
+    // Takes the latest event from the queue, with its mark. Something is queued, since something is pending.
+    pub(crate) fn take_latest(&mut self) -> (u32, Mark)
+        requires queued { (((bound : ℕ) × Queued self.old.work.now self.old.counters bound)) × (0 < self.old.counters.pending) }
+        ensures marked { told (marks self.old.work.now self.old.counters result.0) ≡ Some result.1 }
+        ensures after { Taken self.old.work.now self.old.counters self.new.work.now self.new.counters result.0 (marks self.old.work.now self.old.counters result.0) }
+    {
+        let Some(event) = pop(self.work, self.counters.queued, &LatestFirst) else {
+            unreachable!()
+        };
+        self.counters.queued -= 1;
+        let Some(mark) = self.mark_of(event as usize) else {
+            unreachable!()
+        };
+        self.counters.pending -= mark.alone();
+        (event, mark)
+    }
 
-// Writes an event down by its mark: one of the first version alone to the output, one of the second alone to the
-// back of the queue's area, backwards.
-pub(crate) fn write_down(
-    work: &mut [u32],
-    out: &mut [u32],
-    s: Search,
-    event: u32,
-    mark: u32,
-) -> Search
-    requires { (s.first < length out.old) × ((s.second < s.room) × (s.room ≤ length work.old)) }
-    ensures after { Written work.old out.old s event mark work.new out.new result }
-{
-    match mark {
-        FIRST => {
-            out[s.first] = event;
-            Search {
-                first: s.first + 1,
-                ..s
+    // Writes an event down by its mark: one of the first version alone to the output, one of the second alone to the
+    // back of the queue's area, backwards.
+    pub(crate) fn write_down(&mut self, out: &mut [u32], event: u32, mark: Mark)
+        requires { (self.old.counters.first < length out.old) × (self.old.counters.second < self.old.counters.room) }
+        ensures after { Written self.old.work.now out.old self.old.counters event (number_of mark) self.new.work.now out.new self.new.counters }
+    {
+        let s = self.counters;
+        match mark {
+            Mark::First => {
+                out[s.first] = event;
+                self.counters.first += 1;
             }
-        }
-        SECOND => {
-            work[s.room - 1 - s.second] = event;
-            Search {
-                second: s.second + 1,
-                ..s
+            Mark::Second => {
+                self.work[s.room - 1 - s.second] = event;
+                self.counters.second += 1;
             }
+            Mark::Both => {}
         }
-        _ => s,
     }
 }

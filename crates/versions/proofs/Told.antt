@@ -1,0 +1,131 @@
+-- The number in a cell, and the number of the mark that it tells.
+use Rattle.std.proofs.Common.{◌≡◌, ℕ, ◌+◌, ◌-◌, ◌*◌, ◌<◌, ◌⊎◌, ◌↔◌, Bool, true, List, Some, None, length, set, ltb, sym, ap, ◌∙◌, subst, inl, inr, arith}
+use Rattle.std.proofs.lemmas.Bool.{cases_eq, eq-eqb, ne_eqb, lt-ltb}
+use Rattle.queue.specs.Heaps.{Pushed}
+use Rattle.versions.specs.declared.counters.Counters.{Counters}
+use Rattle.versions.specs.declared.marks.Mark.{Mark}
+use Rattle.versions.specs.declared.marks.Mark.TheVariants.{First, Second, Both}
+use Rattle.versions.specs.Marks.{Marked, number_of, told, join, one_sided}
+use Rattle.versions.specs.Searches.{marks, Listed, Queued, Noted, Written}
+use Rattle.versions.proofs.Joins.{join_cases}
+use Rattle.versions.proofs.Queues.{sided_both}
+use Rattle.versions.proofs.Noted.{again, more, put, put_length, remarked, marked_first, room_left}
+
+pub number_some : (o : Mark) → number_of o ≡ 0 → ⊥
+number_some First z = omega (arith, z)
+number_some Second z = omega (arith, z)
+number_some Both z = omega (arith, z)
+
+number_small : (o : Mark) → number_of o < 4
+number_small First = omega arith
+number_small Second = omega arith
+number_small Both = omega arith
+
+pub told_none : (k : ℕ) → None ≡ told k → k ≡ 0
+told_none k h = elim (cases_eq k 0) [
+  | inl z ↦ z
+  | inr a ↦ elim (cases_eq k 1) [
+    | inl z ↦ let t : told k ≡ Some First = rw (ne_eqb k 0 a, eq-eqb k 1 z) in cc
+    | inr b ↦ elim (cases_eq k 2) [
+      | inl z ↦ let t : told k ≡ Some Second = rw (ne_eqb k 0 a, ne_eqb k 1 b, eq-eqb k 2 z) in cc
+      | inr c ↦ let t : told k ≡ Some Both = rw (ne_eqb k 0 a, ne_eqb k 1 b, ne_eqb k 2 c) in cc
+    ]
+  ]
+]
+
+-- a cell has the number of the mark that it tells, or one above all
+told_some : (k : ℕ) (o : Mark) → Some o ≡ told k → (k ≡ number_of o) ⊎ ((3 < k) × (number_of o ≡ 3))
+told_some k o h = elim (cases_eq k 0) [
+  | inl z ↦ let t : told k ≡ None = rw (eq-eqb k 0 z) in cc
+  | inr a ↦ elim (cases_eq k 1) [
+    | inl z ↦
+        let t : told k ≡ Some First = rw (ne_eqb k 0 a, eq-eqb k 1 z) in
+        let q : o ≡ First = cc in
+        inl (z ∙ ap number_of (sym q))
+    | inr b ↦ elim (cases_eq k 2) [
+      | inl z ↦
+          let t : told k ≡ Some Second = rw (ne_eqb k 0 a, ne_eqb k 1 b, eq-eqb k 2 z) in
+          let q : o ≡ Second = cc in
+          inl (z ∙ ap number_of (sym q))
+      | inr c ↦
+          let t : told k ≡ Some Both = rw (ne_eqb k 0 a, ne_eqb k 1 b, ne_eqb k 2 c) in
+          let q : o ≡ Both = cc in
+          elim (cases_eq k 3) [ inl z ↦ inl (z ∙ ap number_of (sym q)) | inr d ↦ inr (omega arith, ap number_of q) ]
+    ]
+  ]
+]
+
+module _ (k : ℕ) (o : Mark) (is : Some o ≡ told k) where
+  pub told_there : k ≡ 0 → ⊥
+  told_there z = elim (told_some k o is) [ inl q ↦ number_some o (sym q ∙ z) | inr q ↦ omega (arith, q.0) ]
+
+  pub told_alone : one_sided (number_of o) ≡ one_sided k
+  told_alone = elim (told_some k o is) [
+    | inl q ↦ ap one_sided (sym q)
+    | inr q ↦ sided_both (number_of o) (λ z. omega (arith, q.1)) (λ z. omega (arith, q.1)) ∙ sym (sided_both k (λ z. omega (arith, q.0)) (λ z. omega (arith, q.0)))
+  ]
+
+  pub told_joined : (m : Mark) → join (number_of o) (number_of m) ≡ join k (number_of m)
+  told_joined m = elim (told_some k o is) [
+    | inl q ↦ ap (λ n. join n (number_of m)) (sym q)
+    | inr q ↦ three (number_of o) (omega (arith, q.1)) m ∙ sym (three k (omega (arith, q.0)) m)
+  ]
+    where
+      three : (n : ℕ) → 2 < n → (m : Mark) → join n (number_of m) ≡ 3
+      three n up m = elim (join_cases n (number_of m)) [
+        | inl h ↦ absurd (omega (arith, h.0))
+        | inr r ↦ elim r [ inl h ↦ omega (arith, h.0, h.1, number_small m) | inr h ↦ h.2 ]
+      ]
+
+  pub told_marked : (other : ℕ) → other < 3 → Marked other k ↔ Marked other (number_of o)
+  told_marked other low = elim (told_some k o is) [
+    | inl q ↦ (subst (Marked other) q, subst (Marked other) (sym q))
+    | inr q ↦ (
+      (λ h. ((λ z. omega (arith, q.1)), (λ z. omega (arith, q.1)))),
+      (λ h. ((λ z. omega (arith, q.0)), (λ z. omega (arith, q.0)))),
+    )
+  ]
+
+  pub told_written : {w out : List ℕ} {s : Counters} {e : ℕ} {v new : List ℕ} {r : Counters} → Written w out s e (number_of o) v new r → Written w out s e k v new r
+  told_written wr = elim (told_some k o is) [
+    | inl q ↦ record { first = λ z. wr.first (sym q ∙ z); second = λ z. wr.second (sym q ∙ z); neither = λ a b. wr.neither (λ z. a (q ∙ z)) (λ z. b (q ∙ z)) }
+    | inr q ↦ record {
+      first = λ z. absurd (omega (arith, q.0));
+      second = λ z. absurd (omega (arith, q.0));
+      neither = λ a b. wr.neither (λ z. omega (arith, q.1)) (λ z. omega (arith, q.1));
+    }
+  ]
+
+  pub told_noted : {P : ℕ → Type 0} {w : List ℕ} {s : Counters} {v : List ℕ} {r : Counters} → Noted P (number_of o) w s v r → Noted P k w s v r
+  told_noted nt = record {
+    listed = nt.listed;
+    room = nt.room;
+    found = nt.found;
+    grows = nt.grows;
+    moved = nt.moved;
+    spread = record {
+      keeps = nt.spread.keeps;
+      takes = λ other x low p h. nt.spread.takes other x low p ((told_marked other low).0 h);
+      from = λ other x low h. elim (nt.spread.from other x low h) [ inl g ↦ inl g | inr g ↦ inr (g.0, (told_marked other low).1 g.1) ];
+      others = nt.spread.others;
+    };
+    queued = nt.queued;
+    kept = nt.kept;
+  }
+
+-- what marking an event leaves, by what its calls answer
+module _ (w : List ℕ) (s : Counters) (e bound : ℕ) (m : Mark) (l : Listed w s) (in' : e < s.room) (low : e < bound) (q : Queued w s bound) where
+  pub noted_besides : (o n : Mark) (t x y : ℕ) → Some o ≡ told (marks w s e) → number_of n ≡ join (number_of o) (number_of m) → t ≡ number_of n → x ≡ one_sided (number_of n) → y ≡ one_sided (number_of o) → Noted (λ z. z ≡ e) (number_of m) w s (set w (3 * s.room + e) t) (again s ((s.pending + x) - y))
+  noted_besides o n t x y is joined put new old =
+      remarked w s e (number_of m) bound l in' (number_some m) low q t x y (told_there (marks w s e) o is)
+      (put ∙ joined ∙ told_joined (marks w s e) o is m)
+      (new ∙ ap one_sided (sym put))
+      (old ∙ told_alone (marks w s e) o is)
+
+  pub noted_first : (t x : ℕ) (v : List ℕ) (b : Bool) → None ≡ told (marks w s e) → t ≡ number_of m → x ≡ one_sided (number_of m) → length v ≡ length (put w s e t) → b ≡ ltb s.queued (length (put w s e t)) → (b ≡ true → Pushed (λ c d. ltb d c) (put w s e t) s.queued e v) → Noted (λ z. z ≡ e) (number_of m) w s v (more s (s.pending + x))
+  noted_first t x v b is put' alone level fits pushed =
+      let none = told_none (marks w s e) is in
+      let small = room_left w s e l in' none in
+      let free = lt-ltb s.queued (length (put w s e t)) (omega (arith, put_length w s e t, l.size, l.within)) in
+      marked_first w s e (number_of m) bound l in' (number_some m) low q v x none (level ∙ ap (λ n. length (put w s e n)) put') alone
+      (subst (λ n. Pushed (λ c d. ltb d c) (put w s e n) s.queued e v) put' (pushed (fits ∙ free)))
