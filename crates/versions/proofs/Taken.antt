@@ -6,11 +6,12 @@ use Rattle.std.proofs.lemmas.List.Sorted.{sum_by-IsPermutation}
 use Rattle.std.proofs.lemmas.Bool.{cases_eq, cases_lt, eq-eqb, lt-ltb, le-ltb, ltb-false, and_right}
 use Rattle.queue.specs.Heaps.{Popped}
 use Rattle.versions.specs.declared.counters.Counters.{Counters}
-use Rattle.versions.specs.Marks.{one_sided}
+use Rattle.versions.specs.declared.search.Search.{Search}
+use Rattle.versions.specs.Marks.{one_sided, told}
 use Rattle.versions.specs.Searches.{marks, copies, Listed, Queued, Taken}
 use Rattle.versions.proofs.Cells.{mark_kept, mark_some}
 use Rattle.versions.proofs.Counts.{marked_same, hit_yes, hit_no}
-use Rattle.versions.proofs.Queues.{at_behind, seen_le, once_in}
+use Rattle.versions.proofs.Queues.{at_behind, seen_le, once_in, pending_le, share}
 
 abbrev pub fewer : Counters → ℕ → Counters
 fewer s p = record { room = s.room; seen = s.seen; queued = s.queued - 1; pending = p; first = s.first; second = s.second }
@@ -126,3 +127,30 @@ module _ (w v : List ℕ) (s : Counters) (e p : ℕ) (l : Listed w s) (level : l
     queued = λ b r. ((was b r).0, after b r is, gap b r);
     kept = behind;
   }
+
+-- what a pop leaves of a search in which something is pending
+pub record Left (s : Search) (v : List ℕ) (e : ℕ) : Type 0 where
+  pub listed : Listed v (fewer s.counters s.counters.pending)
+  pub inside : e < s.counters.room
+  pub marked : marks s.work.now s.counters e ≡ 0 → ⊥
+  pub told_same : told (marks v (fewer s.counters s.counters.pending) e) ≡ told (marks s.work.now s.counters e)
+  pub taken : (x : ℕ) → x ≡ one_sided (marks s.work.now s.counters e) → Taken s.work.now s.counters v (fewer s.counters (s.counters.pending - x)) e (marks s.work.now s.counters e)
+
+pub some_queued : (s : Search) → ((bound : ℕ) × Queued s.work.now s.counters bound) × (0 < s.counters.pending) → 0 < s.counters.queued
+some_queued s q = omega (arith, pending_le s.work.now s.counters s.listed q.0.0 q.0.1, q.1)
+
+pub left : (s : Search) (v : List ℕ) (e : ℕ) → ((bound : ℕ) × Queued s.work.now s.counters bound) × (0 < s.counters.pending) → length v ≡ length s.work.now → Popped (λ a b. ltb b a) s.work.now s.counters.queued e v → Left s v e
+left s v e q level got =
+    let w = s.work.now in
+    let at = s.counters in
+    let pos = some_queued s q in
+    let here = was w v at e at.pending s.listed level pos got q.0.0 q.0.1 in
+    record {
+      listed = listed_then w v at e at.pending s.listed level pos got;
+      inside = in_room w v at e at.pending s.listed level pos got q.0.0 q.0.1;
+      marked = here.1;
+      told_same = ap told (same w v at e at.pending s.listed level pos got e);
+      taken = λ x is.
+          let le = share w at s.listed q.0.0 q.0.1 e here.0 in
+          taken w v at e (at.pending - x) s.listed level pos got (marks w at e) refl (omega arith) q.0.0 q.0.1;
+    }

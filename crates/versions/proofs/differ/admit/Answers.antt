@@ -1,13 +1,7 @@
 -- The refusals in their order.
-use Rattle.std.proofs.Common.{Some, subst, inl, inr, arith}
+use Rattle.std.proofs.Common.{Some, subst, inr, arith}
 use Rattle.versions.specs.Difference.{FirstUnknown, Known}
 use Rattle.versions.proofs.differ.admit.Goals as goal
-
-pub returns-in-Some : goal.returns-in-Some
-returns-in-Some g c =
-    let cap = c.capacity-needed.ensures.answer in
-    let count = c.count-count.ensures.answer in
-    record { answer = ((omega arith, omega arith), inl (subst (λ n. FirstUnknown n c.args.first.now (Some c.in-Some.event)) count c.in-Some.ensures.answer)) }
 
 pub returns-in-Some-unknown_head : goal.returns-in-Some-unknown_head
 returns-in-Some-unknown_head g c =

@@ -1,19 +1,10 @@
 -- The events of the version, the latest first, have all below n just where the n-th from the end is n - 1.
-use Rattle.std.proofs.Common.{◌-◌, get_or, refl, arith}
-use Rattle.std.proofs.lemmas.Result.{err_from_is_err_and}
+use Rattle.std.proofs.Common.{◌-◌, get_or, arith}
 use Rattle.std.proofs.lemmas.Bool.{eq-eqb, eqb-true, false≢true}
 use Rattle.versions.proofs.Reached.{enumerates_same}
 use Rattle.versions.proofs.Rows.{all_of, of_all}
 use Rattle.versions.proofs.Asked.{only_none}
 use Rattle.versions.proofs.questions.contains_all_below.Goals as goal
-
-pub returns-in_err-admit : goal.returns-in_err-admit
-returns-in_err-admit g c =
-    let p = err_from_is_err_and c.from_residual.result c.from_residual.ensures.1 in
-    record { answer = rw (p.1, p.2) c.in_err-admit.ensures.answer }
-
-pub returns-then-n-eq0 : goal.returns-then-n-eq0
-returns-then-n-eq0 g c = record { answer = ((λ e x low. absurd (omega (arith, c.if-n-eq0.true))), (λ e. refl)) }
 
 pub returns-then-n-held : goal.returns-then-n-held
 returns-then-n-held g c =

@@ -4,11 +4,8 @@ use Rattle.std.specs.List.{slice_get}
 use Rattle.std.proofs.lemmas.Option.{slice_get-get_or}
 use Rattle.versions.specs.Versions.{Head}
 use Rattle.versions.specs.Searches.{Among}
-use Rattle.versions.proofs.Sets.{noted_none, noted_step, noted_same, all_heads}
+use Rattle.versions.proofs.Sets.{noted_step, noted_same, all_heads}
 use Rattle.versions.proofs.search.Search.note_all.Goals as goal
-
-pub loop-event-init : goal.loop-event-init
-loop-event-init c = noted_none (slice_get c.args.events.now) c.args.self.now.listed
 
 pub loop-event-preserved : goal.loop-event-preserved
 loop-event-preserved c =
