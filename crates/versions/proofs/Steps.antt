@@ -1,18 +1,21 @@
 -- One step of the search: the latest event is taken, written down, and its parents are marked.
-use Rattle.std.proofs.Common.{◌≡◌, ℕ, ◌+◌, ◌-◌, ◌<◌, ◌≤◌, cond, not, ◌&&◌, eqb, ltb, List, length, get_or, take, drop, set, sym, refl, ap, ◌∙◌, subst, inl, inr, arith}
+use Rattle.std.proofs.Common.{◌≡◌, ℕ, ◌+◌, ◌-◌, ◌<◌, ◌≤◌, cond, not, ◌&&◌, eqb, ltb, List, Some, length, get_or, take, drop, set, sym, refl, ap, ◌∙◌, subst, inl, inr, arith}
 use Rattle.std.proofs.lemmas.List.{get_or-set_same, get_or-set_other, take-set-le, length-set, drop-set-lt}
 use Rattle.std.proofs.lemmas.Bool.{cases_eq, cases_lt}
 use Rattle.events.specs.Parts.{StoredEvent}
 use Rattle.events.specs.WellFormed.{WellFormed}
 use Rattle.versions.specs.declared.counters.Counters.{Counters}
+use Rattle.versions.specs.declared.search.Search.{Search}
+use Rattle.versions.specs.declared.marks.Mark.{Mark}
 use Rattle.versions.specs.Versions.{Parent, parent, Enumerates}
-use Rattle.versions.specs.Marks.{Marked, one_sided}
+use Rattle.versions.specs.Marks.{Marked, number_of, one_sided, told}
 use Rattle.versions.specs.Searches.{marks, copies, open_in, Listed, Queued, Taken, Written, Noted, Knows, Stage, Stepped}
 use Rattle.versions.proofs.Reached.{parent_less, enumerates_same}
 use Rattle.versions.proofs.Cells.{mark_kept}
 use Rattle.versions.proofs.Counts.{marked_same}
 use Rattle.versions.proofs.Queues.{seen_le, heaped_same}
 use Rattle.versions.proofs.Taken.{sum_same}
+use Rattle.versions.proofs.Told.{told_written, told_noted}
 use Rattle.versions.proofs.Found.{found_more, found_same, found_moved}
 
 abbrev pub more_first : Counters → Counters
@@ -234,3 +237,15 @@ module _ (es : List StoredEvent) (first second w out : List ℕ) (s : Counters) 
       first = omega (arith, nt.found.0, bt.first);
       kept = subst (λ n. drop n new ≡ drop n out) (sym nt.found.0) bt.kept;
     }
+
+-- the three calls of a step: the search before them, and after each
+module _ (es : List StoredEvent) (s t u : Search) (out new : List ℕ) (e : ℕ) (m : Mark) (long : length es ≤ length out) (is : told (marks s.work.now s.counters e) ≡ Some m) (tk : Taken s.work.now s.counters t.work.now t.counters e (marks s.work.now s.counters e)) (wr : Written t.work.now out t.counters e (number_of m) u.work.now new u.counters) (first second : List ℕ) (bound : ℕ) (st : Stage es first second s.work.now out s.counters bound) where
+  pub placed : Between es s.work.now out s.counters e u.work.now new u.counters
+  placed = between es first second s.work.now out s.counters bound e (marks s.work.now s.counters e) t.work.now t.counters st long tk u.work.now new u.counters (told_written (marks s.work.now s.counters e) m (sym is) wr)
+
+  module _ (fit : WellFormed es) (n : Search) (nt : Noted (Parent es e) (number_of m) u.work.now u.counters n.work.now n.counters) where
+    pub next_stage : Stage es first second n.work.now new n.counters e
+    next_stage = staged es first second s.work.now out s.counters bound e (marks s.work.now s.counters e) t.work.now t.counters st long tk fit u.work.now new u.counters placed n.work.now n.counters (told_noted (marks s.work.now s.counters e) m (sym is) nt)
+
+    pub one_less : Stepped s.counters out n.counters new
+    one_less = stepped es first second s.work.now out s.counters bound e (marks s.work.now s.counters e) t.work.now t.counters st long tk fit u.work.now new u.counters placed n.work.now n.counters (told_noted (marks s.work.now s.counters e) m (sym is) nt)

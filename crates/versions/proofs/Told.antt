@@ -1,14 +1,15 @@
 -- The number in a cell, and the number of the mark that it tells.
-use Rattle.std.proofs.Common.{◌≡◌, ℕ, ◌+◌, ◌-◌, ◌*◌, ◌<◌, ◌⊎◌, ◌↔◌, Bool, true, List, Some, None, length, set, ltb, sym, ap, ◌∙◌, subst, inl, inr, arith}
+use Rattle.std.proofs.Common.{◌≡◌, ℕ, ◌+◌, ◌-◌, ◌*◌, ◌<◌, ◌≤◌, ◌⊎◌, ◌↔◌, Bool, true, List, Some, None, length, set, ltb, sym, ap, ◌∙◌, subst, inl, inr, arith}
 use Rattle.std.proofs.lemmas.Bool.{cases_eq, eq-eqb, ne_eqb, lt-ltb}
 use Rattle.queue.specs.Heaps.{Pushed}
 use Rattle.versions.specs.declared.counters.Counters.{Counters}
+use Rattle.versions.specs.declared.search.Search.{Search}
 use Rattle.versions.specs.declared.marks.Mark.{Mark}
 use Rattle.versions.specs.declared.marks.Mark.TheVariants.{First, Second, Both}
 use Rattle.versions.specs.Marks.{Marked, number_of, told, join, one_sided}
-use Rattle.versions.specs.Searches.{marks, Listed, Queued, Noted, Written}
+use Rattle.versions.specs.Searches.{marks, Queued, Noted, Written}
 use Rattle.versions.proofs.Joins.{join_cases}
-use Rattle.versions.proofs.Queues.{sided_both}
+use Rattle.versions.proofs.Queues.{share, sided_both}
 use Rattle.versions.proofs.Noted.{again, more, put, put_length, remarked, marked_first, room_left}
 
 pub number_some : (o : Mark) → number_of o ≡ 0 → ⊥
@@ -114,18 +115,23 @@ module _ (k : ℕ) (o : Mark) (is : Some o ≡ told k) where
   }
 
 -- what marking an event leaves, by what its calls answer
-module _ (w : List ℕ) (s : Counters) (e bound : ℕ) (m : Mark) (l : Listed w s) (in' : e < s.room) (low : e < bound) (q : Queued w s bound) where
-  pub noted_besides : (o n : Mark) (t x y : ℕ) → Some o ≡ told (marks w s e) → number_of n ≡ join (number_of o) (number_of m) → t ≡ number_of n → x ≡ one_sided (number_of n) → y ≡ one_sided (number_of o) → Noted (λ z. z ≡ e) (number_of m) w s (set w (3 * s.room + e) t) (again s ((s.pending + x) - y))
+module _ (s : Search) (e : ℕ) (m : Mark) (in' : e < s.counters.room) (q : (bound : ℕ) × (e < bound) × Queued s.work.now s.counters bound) where
+  pub noted_besides : (o n : Mark) (t x y : ℕ) → Some o ≡ told (marks s.work.now s.counters e) → number_of n ≡ join (number_of o) (number_of m) → t ≡ number_of n → x ≡ one_sided (number_of n) → y ≡ one_sided (number_of o) → Noted (λ z. z ≡ e) (number_of m) s.work.now s.counters (set s.work.now (3 * s.counters.room + e) t) (again s.counters ((s.counters.pending + x) - y))
   noted_besides o n t x y is joined put new old =
-      remarked w s e (number_of m) bound l in' (number_some m) low q t x y (told_there (marks w s e) o is)
-      (put ∙ joined ∙ told_joined (marks w s e) o is m)
-      (new ∙ ap one_sided (sym put))
-      (old ∙ told_alone (marks w s e) o is)
+      let k = marks s.work.now s.counters e in
+      remarked s.work.now s.counters e (number_of m) q.0 s.listed in' (number_some m) q.1 q.2 t x y (told_there k o is) (put ∙ joined ∙ told_joined k o is m) (new ∙ ap one_sided (sym put)) (old ∙ told_alone k o is)
 
-  pub noted_first : (t x : ℕ) (v : List ℕ) (b : Bool) → None ≡ told (marks w s e) → t ≡ number_of m → x ≡ one_sided (number_of m) → length v ≡ length (put w s e t) → b ≡ ltb s.queued (length (put w s e t)) → (b ≡ true → Pushed (λ c d. ltb d c) (put w s e t) s.queued e v) → Noted (λ z. z ≡ e) (number_of m) w s v (more s (s.pending + x))
+  pub share_in : (o : Mark) (x y : ℕ) → Some o ≡ told (marks s.work.now s.counters e) → y ≡ one_sided (number_of o) → y ≤ s.counters.pending + x
+  share_in o x y is old =
+      omega (arith, old, told_alone (marks s.work.now s.counters e) o is, share s.work.now s.counters s.listed q.0 q.2 e q.1)
+
+  pub left_room : None ≡ told (marks s.work.now s.counters e) → s.counters.seen < s.counters.room
+  left_room is = room_left s.work.now s.counters e s.listed in' (told_none (marks s.work.now s.counters e) is)
+
+  pub noted_first : (t x : ℕ) (v : List ℕ) (b : Bool) → None ≡ told (marks s.work.now s.counters e) → t ≡ number_of m → x ≡ one_sided (number_of m) → length v ≡ length (put s.work.now s.counters e t) → b ≡ ltb s.counters.queued (length (put s.work.now s.counters e t)) → (b ≡ true → Pushed (λ c d. ltb d c) (put s.work.now s.counters e t) s.counters.queued e v) → Noted (λ z. z ≡ e) (number_of m) s.work.now s.counters v (more s.counters (s.counters.pending + x))
   noted_first t x v b is put' alone level fits pushed =
-      let none = told_none (marks w s e) is in
-      let small = room_left w s e l in' none in
-      let free = lt-ltb s.queued (length (put w s e t)) (omega (arith, put_length w s e t, l.size, l.within)) in
-      marked_first w s e (number_of m) bound l in' (number_some m) low q v x none (level ∙ ap (λ n. length (put w s e n)) put') alone
-      (subst (λ n. Pushed (λ c d. ltb d c) (put w s e n) s.queued e v) put' (pushed (fits ∙ free)))
+      let w = s.work.now in
+      let at = s.counters in
+      let free = lt-ltb at.queued (length (put w at e t)) (omega (arith, put_length w at e t, s.listed.size, s.listed.within, left_room is)) in
+      marked_first w at e (number_of m) q.0 s.listed in' (number_some m) q.1 q.2 v x (told_none (marks w at e) is) (level ∙ ap (λ n. length (put w at e n)) put') alone
+      (subst (λ n. Pushed (λ c d. ltb d c) (put w at e n) at.queued e v) put' (pushed (fits ∙ free)))

@@ -14,6 +14,7 @@ use stores::EventStore;
 
 impl Search<'_> {
     // The mark of an event, if it has one.
+    #[tactic(auto, using(crate::proofs::Queues::seen_le))]
     pub(crate) fn mark_of(&self, event: usize) -> Option<Mark>
         requires { event < self.now.counters.room }
         ensures answer { result ≡ told (marks self.now.work.now self.now.counters event) }
@@ -28,6 +29,7 @@ impl Search<'_> {
     }
 
     // Marks an event besides, and queues it where it had no mark.
+    #[tactic(auto, using(crate::proofs::Queues::seen_le))]
     pub(crate) fn note(&mut self, event: usize, mark: Mark)
         requires queued { (bound : ℕ) × (event < bound) × Queued self.old.work.now self.old.counters bound }
         requires inside { event < self.old.counters.room }

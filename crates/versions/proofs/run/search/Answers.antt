@@ -1,5 +1,5 @@
 -- Each step goes on from the stage before, and takes one event more.
-use Rattle.std.proofs.Common.{length, refl, ◌∙◌, arith}
+use Rattle.std.proofs.Common.{length, drop, refl, ◌∙◌, arith}
 use Rattle.versions.proofs.Queues.{seen_le, pending_le}
 use Rattle.versions.proofs.Starts.{first_stage, drop_further}
 use Rattle.versions.proofs.run.search.Goals as goal
@@ -20,7 +20,7 @@ loop-search-init g c =
     record {
       stage = (length es, first_stage es c.capacity.result c.args.first.now c.args.second.now s.work.now c.args.out.now s.counters (omega (arith, g.S.EventStore.laws.within store)) c.requires.known.0 c.requires.known.1 st);
       room = st.fields.0 ∙ cap;
-      kept = refl;
+      kept = refl {a = drop s.counters.first c.args.out.now};
     }
 
 pub loop-search-smaller : goal.loop-search-smaller
