@@ -28,8 +28,9 @@ impl Search<'_> {
         }
     }
 
-    // Marks an event besides, and queues it where it had no mark.
+    // Marks an event besides, and queues it where it had no mark. In line, as the next, it leaves the counters in registers.
     #[tactic(auto, using(crate::proofs::Queues::seen_le))]
+    #[inline(always)]
     pub(crate) fn note(&mut self, event: usize, mark: Mark)
         requires queued { (bound : ℕ) × (event < bound) × Queued self.old.work.now self.old.counters bound }
         requires inside { event < self.old.counters.room }
@@ -56,6 +57,7 @@ impl Search<'_> {
     }
 
     // Marks events, as the heads of a version, and queues those that had no mark.
+    #[inline(always)]
     pub(crate) fn note_all(&mut self, events: &[u16], mark: Mark)
         requires queued { (bound : ℕ) × (bound ≤ self.old.counters.room) × Known bound events.now × Queued self.old.work.now self.old.counters bound }
         ensures after { Noted (Head events.now) (number_of mark) self.old.work.now self.old.counters self.new.work.now self.new.counters }
