@@ -1,53 +1,24 @@
 -- What two marks joined say, and marks joined to those of one event after another.
 use Rattle.std.proofs.Common.{◌≡◌, ℕ, ◌<◌, cond, eqb, ◌⊎◌, sym, ◌∙◌, subst, inl, inr, arith}
 use Rattle.std.proofs.lemmas.Bool.{cases_eq, eq-eqb, ne_eqb}
+use Rattle.std.proofs.lemmas.Bool.Decides.{nat_tests}
 use Rattle.versions.specs.Marks.{Marked, join, Spread}
 
-pub join_cases : (a m : ℕ) → ((a ≡ 0) × (join a m ≡ m)) ⊎ (((a ≡ m) × (join a m ≡ a)) ⊎ ((a ≡ 0 → ⊥) × (a ≡ m → ⊥) × (join a m ≡ 3)))
-join_cases a m = elim (cases_eq a 0) [
-  | inl e ↦ inl (e, rw (eq-eqb a 0 e))
-  | inr n ↦ elim (cases_eq a m) [
-    | inl e ↦ inr (inl (e, rw (ne_eqb a 0 n, eq-eqb a m e)))
-    | inr k ↦ inr (inr (n, k, rw (ne_eqb a 0 n, ne_eqb a m k)))
-  ]
-]
-
 pub join_some : (a m : ℕ) → (m ≡ 0 → ⊥) → join a m ≡ 0 → ⊥
-join_some a m nz z = elim (join_cases a m) [
-  | inl h ↦ nz (sym h.1 ∙ z)
-  | inr q ↦ elim q [
-    | inl h ↦ nz (sym h.0 ∙ sym h.1 ∙ z)
-    | inr h ↦ omega (arith, h.2)
-  ]
-]
+join_some a m nz z = grind (arith, nat_tests)
 
 join_left : (other a m : ℕ) → other < 3 → Marked other a → Marked other (join a m)
-join_left other a m low h = elim (join_cases a m) [
-  | inl q ↦ absurd (h.0 q.0)
-  | inr r ↦ elim r [
-    | inl q ↦ subst (Marked other) (sym q.1) h
-    | inr q ↦ ((λ z. omega (arith, q.2)), (λ z. omega (arith, q.2)))
-  ]
-]
+join_left other a m low h = ((λ z. grind (arith, nat_tests)), (λ z. grind (arith, nat_tests)))
 
 join_right : (other a m : ℕ) → other < 3 → Marked other m → Marked other (join a m)
-join_right other a m low h = elim (join_cases a m) [
-  | inl q ↦ subst (Marked other) (sym q.1) h
-  | inr r ↦ elim r [
-    | inl q ↦ subst (Marked other) (sym q.0 ∙ sym q.1) h
-    | inr q ↦ ((λ z. omega (arith, q.2)), (λ z. omega (arith, q.2)))
-  ]
-]
+join_right other a m low h = ((λ z. grind (arith, nat_tests)), (λ z. grind (arith, nat_tests)))
 
 join_from : (other a m : ℕ) → (m ≡ 0 → ⊥) → Marked other (join a m) → Marked other a ⊎ Marked other m
-join_from other a m nz h = elim (join_cases a m) [
-  | inl q ↦ inr (subst (Marked other) q.1 h)
-  | inr r ↦ elim r [
-    | inl q ↦ inl (subst (Marked other) q.1 h)
-    | inr q ↦ elim (cases_eq a other) [
-      | inl e ↦ inr (nz, λ z. q.1 (e ∙ sym z))
-      | inr n ↦ inl (q.0, n)
-    ]
+join_from other a m nz h = elim (cases_eq a 0) [
+  | inl z ↦ inr (nz, λ q. h.1 (grind (arith, nat_tests)))
+  | inr n ↦ elim (cases_eq a other) [
+    | inl q ↦ inr (nz, λ r. h.1 (grind (arith, nat_tests)))
+    | inr k ↦ inl (n, k)
   ]
 ]
 

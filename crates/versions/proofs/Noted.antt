@@ -10,7 +10,7 @@ use Rattle.versions.specs.Marks.{one_sided, join}
 use Rattle.versions.specs.Searches.{marks, copies, open_in, Listed, Queued, Noted}
 use Rattle.versions.proofs.Joins.{join_some, spread_one}
 use Rattle.versions.proofs.Cells.{mark_changed, mark_new}
-use Rattle.versions.proofs.Counts.{marked_same, marked_more, marked_lt, change_none, change_one, hit_yes, hit_no}
+use Rattle.versions.proofs.Counts.{marked_same, marked_more, marked_lt, change_none, change_one}
 use Rattle.versions.proofs.Queues.{at_behind, seen_le, once_in, once_out, heaped_same, share}
 
 abbrev pub again : Counters → ℕ → Counters
@@ -59,7 +59,7 @@ module _ (w : List ℕ) (s : Counters) (e m p : ℕ) (l : Listed w s) (in' : e <
       listed = record {
         size = omega (arith, l.size, length-set w (3 * s.room + e) (join (marks w s e) m));
         small = l.small;
-        seen = l.seen ∙ sym (marked_same (marks w s) (marks changed (again s p)) s.room (λ x b. ap (λ y. cond y 0 1) (zero_same x)));
+        seen = l.seen ∙ sym (marked_same (marks w s) (marks changed (again s p)) s.room (λ x b. zero_same x));
         within = l.within;
       };
       room = refl;
@@ -154,12 +154,12 @@ module _ (w : List ℕ) (s : Counters) (e m p : ℕ) (l : Listed w s) (in' : e <
             let bare : marks w s x ≡ 0 = ap (marks w s) (sym r) ∙ none in
             let a = sum_then (λ y. cond (eqb y x) 1 0) in
             let b = once_out w s l bound q x bare in
-            let c = hit_yes e x r in
+            let c : cond {A = ℕ} (eqb e x) 1 0 ≡ 1 = rw (eq-eqb e x r) in
             let d : copies x (take (s.queued + 1) v) ≡ 1 = omega arith in
             d ∙ rw (ne_eqb (marks v (more s p) x) 0 own, lt-ltb x bound (omega arith))
         | inr n ↦
             let a = sum_then (λ y. cond (eqb y x) 1 0) in
-            let c = hit_no e x n in
+            let c : cond {A = ℕ} (eqb e x) 1 0 ≡ 0 = rw (ne_eqb e x n) in
             let d : copies x (take (s.queued + 1) v) ≡ copies x (take s.queued w) = omega arith in
             d ∙ q.once x ∙ ap (λ y. cond (not (eqb y 0) && ltb x bound) 1 0) (sym (new_other x (λ z. n (sym z))))
       ]

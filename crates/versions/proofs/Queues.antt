@@ -1,8 +1,9 @@
 -- What the queue of a search holds, and that it does not depend on the cells behind it.
-use Rattle.std.proofs.Common.{◌≡◌, ℕ, ◌+◌, ◌-◌, ◌<◌, ◌≤◌, eqb, ltb, List, [], ◌∷◌, length, get_or, take, drop, sym, ap, ◌∙◌, subst, inl, inr, arith}
+use Rattle.std.proofs.Common.{◌≡◌, ℕ, ◌+◌, ◌-◌, ◌<◌, ◌≤◌, ltb, List, [], ◌∷◌, length, get_or, take, drop, sym, ap, ◌∙◌, subst, inl, inr, arith}
 use Rattle.std.proofs.lemmas.List.{get_or-drop, length-take-le}
 use Rattle.std.proofs.lemmas.List.Sums.{sum_by-cons}
-use Rattle.std.proofs.lemmas.Bool.{cases_eq, eq-eqb, ne_eqb, lt-ltb, or_from, or_left, or_right}
+use Rattle.std.proofs.lemmas.Bool.{cases_eq}
+use Rattle.std.proofs.lemmas.Bool.Decides.{nat_tests}
 use Rattle.queue.specs.Heaps.{Heaped, parent}
 use Rattle.versions.specs.declared.counters.Counters.{Counters}
 use Rattle.versions.specs.Marks.{one_sided}
@@ -17,23 +18,8 @@ at_behind w v n k same l =
 pub seen_le : (w : List ℕ) (s : Counters) → Listed w s → s.seen ≤ s.room
 seen_le w s l = omega (arith, l.seen, marked_le (marks w s) s.room)
 
-pub sided_none : (m : ℕ) → m ≡ 0 → one_sided m ≡ 0
-sided_none m z = rw (or_from (eqb m 1) (eqb m 2) (ne_eqb m 1 (λ q. omega arith)) (ne_eqb m 2 (λ q. omega arith)))
-
-pub sided_first : (m : ℕ) → m ≡ 1 → one_sided m ≡ 1
-sided_first m q = rw (or_left (eqb m 1) (eqb m 2) (eq-eqb m 1 q))
-
-pub sided_second : (m : ℕ) → m ≡ 2 → one_sided m ≡ 1
-sided_second m q = rw (or_right (eqb m 1) (eqb m 2) (eq-eqb m 2 q))
-
-pub sided_both : (m : ℕ) → (m ≡ 1 → ⊥) → (m ≡ 2 → ⊥) → one_sided m ≡ 0
-sided_both m a b = rw (or_from (eqb m 1) (eqb m 2) (ne_eqb m 1 a) (ne_eqb m 2 b))
-
 pub sided_le : (m : ℕ) → one_sided m ≤ 1
-sided_le m = elim (cases_eq m 1) [
-  | inl q ↦ omega (arith, sided_first m q)
-  | inr a ↦ elim (cases_eq m 2) [ inl q ↦ omega (arith, sided_second m q) | inr b ↦ omega (arith, sided_both m a b) ]
-]
+sided_le m = grind (arith, nat_tests)
 
 open_le : (m : ℕ → ℕ) (xs : List ℕ) → open_in m xs ≤ length xs
 open_le m [] = omega arith
@@ -45,15 +31,15 @@ module _ (w : List ℕ) (s : Counters) (l : Listed w s) (bound : ℕ) (q : Queue
       omega (arith, q.pending, open_le (marks w s) (take s.queued w), length-take-le s.queued w (omega (arith, l.within, seen_le w s l, l.size)))
 
   pub once_in : (x : ℕ) → x < bound → (marks w s x ≡ 0 → ⊥) → copies x (take s.queued w) ≡ 1
-  once_in x low some = q.once x ∙ rw (ne_eqb (marks w s x) 0 some, lt-ltb x bound low)
+  once_in x low some = let a = q.once x in grind (arith, nat_tests)
 
   pub once_out : (x : ℕ) → marks w s x ≡ 0 → copies x (take s.queued w) ≡ 0
-  once_out x none = q.once x ∙ rw (eq-eqb (marks w s x) 0 none)
+  once_out x none = let a = q.once x in grind (arith, nat_tests)
 
   -- an event that may yet be found has its share of the count
   pub share : (x : ℕ) → x < bound → one_sided (marks w s x) ≤ s.pending
   share x low = elim (cases_eq (marks w s x) 0) [
-    | inl z ↦ omega (arith, sided_none (marks w s x) z)
+    | inl z ↦ grind (arith, nat_tests)
     | inr n ↦ omega (arith, q.pending, share_le (λ y. one_sided (marks w s y)) x (take s.queued w) (omega (arith, once_in x low n)))
   ]
 

@@ -1,38 +1,31 @@
 -- Where a search starts: nothing is marked, then the heads are.
-use Rattle.std.proofs.Common.{◌≡◌, ℕ, zero, suc, ◌+◌, ◌-◌, ◌*◌, ◌≤◌, List, length, get_or, drop, sym, refl, ap, ◌∙◌, subst, inl, inr, arith}
+use Rattle.std.proofs.Common.{◌≡◌, ℕ, ◌+◌, ◌-◌, ◌*◌, ◌≤◌, List, length, get_or, drop, sym, refl, ap, ◌∙◌, subst, inl, inr, arith}
 use Rattle.std.proofs.lemmas.List.{drop-drop}
-use Rattle.std.proofs.lemmas.Bool.{eq-eqb, and_left, le-ltb}
+use Rattle.std.proofs.lemmas.Bool.{eq-eqb}
 use Rattle.events.specs.Parts.{StoredEvent}
 use Rattle.versions.specs.declared.counters.Counters.{Counters}
 use Rattle.versions.specs.Versions.{Head, head, Enumerates}
-use Rattle.versions.specs.Marks.{Marked, marked_below}
+use Rattle.versions.specs.Marks.{Marked}
 use Rattle.versions.specs.Searches.{marks, Listed, Queued, Noted, Started, Stage, Knows}
 use Rattle.versions.specs.Difference.{Known}
-use Rattle.versions.proofs.Cells.{mark_out}
-use Rattle.versions.proofs.Counts.{none_one}
+use Rattle.versions.proofs.Cells.{mark_none}
+use Rattle.versions.proofs.Counts.{marked_none}
 
 abbrev pub bare : ℕ → Counters
 bare room = record { room = room; seen = 0; queued = 0; pending = 0; first = 0; second = 0 }
-
-no_mark : (w : List ℕ) (room x : ℕ) → marks w (bare room) x ≡ 0
-no_mark w room x = mark_out w room 0 x (and_left _ _ (le-ltb (get_or w (room + x) 0) 0 (omega arith)))
-
-none_marked : (m : ℕ → ℕ) → ((x : ℕ) → m x ≡ 0) → (k : ℕ) → marked_below m k ≡ 0
-none_marked m none zero = refl
-none_marked m none (suc k) = omega (arith, none_one (m k) (none k), none_marked m none k)
 
 pub bare_listed : (w : List ℕ) (room : ℕ) → 4 * room ≤ length w → room ≤ 65536 → Listed w (bare room)
 bare_listed w room size small = record {
   size = size;
   small = small;
-  seen = sym (none_marked (marks w (bare room)) (no_mark w room) room);
+  seen = sym (marked_none (marks w (bare room)) (mark_none w room) room);
   within = omega arith;
 }
 
 pub bare_queued : (w : List ℕ) (room bound : ℕ) → Queued w (bare room) bound
 bare_queued w room bound = record {
   heaped = λ k d pos below. absurd (omega arith);
-  once = λ x. rw (eq-eqb (marks w (bare room) x) 0 (no_mark w room x));
+  once = λ x. rw (eq-eqb (marks w (bare room) x) 0 (mark_none w room x));
   pending = refl;
 }
 
@@ -41,11 +34,11 @@ started room first second w v u r t a b = record {
   listed = b.listed;
   fields = (b.room ∙ a.room, b.found.0 ∙ a.found.0, b.found.1 ∙ a.found.1);
   from_first = λ x h. elim (b.spread.from 2 x (omega arith) h) [
-    | inl g ↦ elim (a.spread.from 2 x (omega arith) g) [ inl f ↦ absurd (f.0 (no_mark w room x)) | inr f ↦ f.0 ]
+    | inl g ↦ elim (a.spread.from 2 x (omega arith) g) [ inl f ↦ absurd (f.0 (mark_none w room x)) | inr f ↦ f.0 ]
     | inr g ↦ absurd (g.1.1 refl)
   ];
   from_second = λ x h. elim (b.spread.from 1 x (omega arith) h) [
-    | inl g ↦ elim (a.spread.from 1 x (omega arith) g) [ inl f ↦ absurd (f.0 (no_mark w room x)) | inr f ↦ absurd (f.1.1 refl) ]
+    | inl g ↦ elim (a.spread.from 1 x (omega arith) g) [ inl f ↦ absurd (f.0 (mark_none w room x)) | inr f ↦ absurd (f.1.1 refl) ]
     | inr g ↦ g.0
   ];
   of_first = λ x h. b.spread.keeps 2 x (omega arith) (a.spread.takes 2 x (omega arith) h ((λ z. omega arith), (λ z. omega arith)));

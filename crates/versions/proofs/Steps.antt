@@ -131,7 +131,7 @@ module _ (es : List StoredEvent) (first second w out : List ℕ) (s : Counters) 
           listed = record {
             size = omega (arith, l.size, length-set v (t.room - 1 - t.second) e);
             small = l.small;
-            seen = l.seen ∙ sym (marked_same (marks v t) (marks wrote (more_second t)) t.room (λ x b. ap (λ y. cond (eqb y 0) 0 1) (marks_kept x)));
+            seen = l.seen ∙ sym (marked_same (marks v t) (marks wrote (more_second t)) t.room (λ x b. ap (λ y. eqb y 0) (marks_kept x)));
             within = l.within;
           };
           queued = record {

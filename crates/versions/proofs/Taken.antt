@@ -3,14 +3,15 @@ use Rattle.std.proofs.Common.{◌≡◌, ℕ, suc, ◌+◌, ◌-◌, ◌<◌, �
 use Rattle.std.proofs.lemmas.List.{get_or-take, length-take-le}
 use Rattle.std.proofs.lemmas.List.Sums.{sum_by-cons, sum_by_push}
 use Rattle.std.proofs.lemmas.List.Sorted.{sum_by-IsPermutation}
-use Rattle.std.proofs.lemmas.Bool.{cases_eq, cases_lt, eq-eqb, lt-ltb, le-ltb, ltb-false, and_right}
+use Rattle.std.proofs.lemmas.Bool.{cases_eq, cases_lt, eq-eqb, ne_eqb, lt-ltb, le-ltb, ltb-false, and_right}
+use Rattle.std.proofs.lemmas.Bool.Decides.{nat_tests}
 use Rattle.queue.specs.Heaps.{Popped}
 use Rattle.versions.specs.declared.counters.Counters.{Counters}
 use Rattle.versions.specs.declared.search.Search.{Search}
 use Rattle.versions.specs.Marks.{one_sided, told}
 use Rattle.versions.specs.Searches.{marks, copies, Listed, Queued, Taken}
 use Rattle.versions.proofs.Cells.{mark_kept, mark_some}
-use Rattle.versions.proofs.Counts.{marked_same, hit_yes, hit_no}
+use Rattle.versions.proofs.Counts.{marked_same}
 use Rattle.versions.proofs.Queues.{at_behind, seen_le, once_in, pending_le, share}
 
 abbrev pub fewer : Counters → ℕ → Counters
@@ -25,7 +26,7 @@ place_of x [] l = absurd (omega arith)
 place_of x (y ∷ ys) l = elim (cases_eq y x) [
   | inl q ↦ (0, omega arith, q)
   | inr n ↦
-      let r = place_of x ys (omega (arith, sum_by-cons (λ z. cond (eqb z x) 1 0) y ys, hit_no y x n)) in
+      let r = place_of x ys (grind (arith, nat_tests, sum_by-cons (λ z. cond (eqb z x) 1 0) y ys)) in
       (suc r.0, omega (arith, r.1), r.2)
 ]
 
@@ -40,7 +41,7 @@ module _ (w v : List ℕ) (s : Counters) (e p : ℕ) (l : Listed w s) (level : l
   listed_then = record {
     size = omega (arith, l.size, level);
     small = l.small;
-    seen = l.seen ∙ sym (marked_same (marks w s) (marks v (fewer s p)) s.room (λ x b. ap (λ y. cond (eqb y 0) 0 1) (same x)));
+    seen = l.seen ∙ sym (marked_same (marks w s) (marks v (fewer s p)) s.room (λ x b. ap (λ y. eqb y 0) (same x)));
     within = omega (arith, l.within);
   }
 
@@ -54,7 +55,7 @@ module _ (w v : List ℕ) (s : Counters) (e p : ℕ) (l : Listed w s) (level : l
     pub was : (e < bound) × (marks w s e ≡ 0 → ⊥)
     was =
         let a = sum_then (λ y. cond (eqb y e) 1 0) in
-        let b = hit_yes e e refl in
+        let b : cond {A = ℕ} (eqb e e) 1 0 ≡ 1 = rw (eq-eqb e e refl) in
         let c : 0 < copies e (take s.queued w) = omega arith in (
           elim (cases_lt e bound) [
             | inl h ↦ h
@@ -83,13 +84,13 @@ module _ (w v : List ℕ) (s : Counters) (e p : ℕ) (l : Listed w s) (level : l
     once_less x = elim (cases_eq e x) [
       | inl r ↦
           let a = sum_then (λ y. cond (eqb y x) 1 0) in
-          let b = hit_yes e x r in
+          let b : cond {A = ℕ} (eqb e x) 1 0 ≡ 1 = rw (eq-eqb e x r) in
           let c = once_in w s l bound q x (omega (arith, was.0)) (λ z. was.1 (ap (marks w s) r ∙ z)) in
           let d : copies x (take (s.queued - 1) v) ≡ 0 = omega arith in
           d ∙ rw (and_right (not (eqb (marks v (fewer s p) x) 0)) (ltb x e) (le-ltb x e (omega arith)))
       | inr n ↦
           let a = sum_then (λ y. cond (eqb y x) 1 0) in
-          let b = hit_no e x n in
+          let b : cond {A = ℕ} (eqb e x) 1 0 ≡ 0 = rw (ne_eqb e x n) in
           let d : copies x (take (s.queued - 1) v) ≡ copies x (take s.queued w) = omega arith in
           d ∙ q.once x ∙ sides x n ∙ ap (λ y. cond (not (eqb y 0) && ltb x e) 1 0) (sym (same x))
     ]
@@ -107,7 +108,7 @@ module _ (w v : List ℕ) (s : Counters) (e p : ℕ) (l : Listed w s) (level : l
         ]
 
     pub in_room : e < s.room
-    in_room = (mark_some w s.room s.seen e was.1).0
+    in_room = mark_some w s.room s.seen e was.1
 
     after : p + one_sided (marks w s e) ≡ s.pending → Queued v (fewer s p) e
     after is = record {

@@ -1,6 +1,7 @@
 -- The number in a cell, and the number of the mark that it tells.
-use Rattle.std.proofs.Common.{◌≡◌, ℕ, ◌+◌, ◌-◌, ◌*◌, ◌<◌, ◌≤◌, ◌⊎◌, ◌↔◌, Bool, true, List, Some, None, length, set, ltb, sym, ap, ◌∙◌, subst, inl, inr, arith}
-use Rattle.std.proofs.lemmas.Bool.{cases_eq, eq-eqb, ne_eqb, lt-ltb}
+use Rattle.std.proofs.Common.{◌≡◌, ℕ, ◌+◌, ◌-◌, ◌*◌, ◌<◌, ◌≤◌, ◌⊎◌, ◌↔◌, Bool, true, List, Some, None, length, set, ltb, refl, sym, ap, ◌∙◌, subst, inl, inr, arith}
+use Rattle.std.proofs.lemmas.Bool.Decides.{nat_tests}
+use Rattle.std.proofs.lemmas.Bool.{cases_lt, lt-ltb}
 use Rattle.queue.specs.Heaps.{Pushed}
 use Rattle.versions.specs.declared.counters.Counters.{Counters}
 use Rattle.versions.specs.declared.search.Search.{Search}
@@ -8,8 +9,7 @@ use Rattle.versions.specs.declared.marks.Mark.{Mark}
 use Rattle.versions.specs.declared.marks.Mark.TheVariants.{First, Second, Both}
 use Rattle.versions.specs.Marks.{Marked, number_of, told, join, one_sided}
 use Rattle.versions.specs.Searches.{marks, Queued, Noted, Written}
-use Rattle.versions.proofs.Joins.{join_cases}
-use Rattle.versions.proofs.Queues.{share, sided_both}
+use Rattle.versions.proofs.Queues.{share}
 use Rattle.versions.proofs.Noted.{again, more, put, put_length, remarked, marked_first, room_left}
 
 pub number_some : (o : Mark) → number_of o ≡ 0 → ⊥
@@ -23,60 +23,26 @@ number_small Second = omega arith
 number_small Both = omega arith
 
 pub told_none : (k : ℕ) → None ≡ told k → k ≡ 0
-told_none k h = elim (cases_eq k 0) [
-  | inl z ↦ z
-  | inr a ↦ elim (cases_eq k 1) [
-    | inl z ↦ let t : told k ≡ Some First = rw (ne_eqb k 0 a, eq-eqb k 1 z) in cc
-    | inr b ↦ elim (cases_eq k 2) [
-      | inl z ↦ let t : told k ≡ Some Second = rw (ne_eqb k 0 a, ne_eqb k 1 b, eq-eqb k 2 z) in cc
-      | inr c ↦ let t : told k ≡ Some Both = rw (ne_eqb k 0 a, ne_eqb k 1 b, ne_eqb k 2 c) in cc
-    ]
-  ]
-]
+told_none k h = grind (arith, nat_tests)
 
 -- a cell has the number of the mark that it tells, or one above all
 told_some : (k : ℕ) (o : Mark) → Some o ≡ told k → (k ≡ number_of o) ⊎ ((3 < k) × (number_of o ≡ 3))
-told_some k o h = elim (cases_eq k 0) [
-  | inl z ↦ let t : told k ≡ None = rw (eq-eqb k 0 z) in cc
-  | inr a ↦ elim (cases_eq k 1) [
-    | inl z ↦
-        let t : told k ≡ Some First = rw (ne_eqb k 0 a, eq-eqb k 1 z) in
-        let q : o ≡ First = cc in
-        inl (z ∙ ap number_of (sym q))
-    | inr b ↦ elim (cases_eq k 2) [
-      | inl z ↦
-          let t : told k ≡ Some Second = rw (ne_eqb k 0 a, ne_eqb k 1 b, eq-eqb k 2 z) in
-          let q : o ≡ Second = cc in
-          inl (z ∙ ap number_of (sym q))
-      | inr c ↦
-          let t : told k ≡ Some Both = rw (ne_eqb k 0 a, ne_eqb k 1 b, ne_eqb k 2 c) in
-          let q : o ≡ Both = cc in
-          elim (cases_eq k 3) [ inl z ↦ inl (z ∙ ap number_of (sym q)) | inr d ↦ inr (omega arith, ap number_of q) ]
-    ]
-  ]
-]
+told_some k First h = inl (grind (arith, nat_tests))
+told_some k Second h = inl (grind (arith, nat_tests))
+told_some k Both h = elim (cases_lt 3 k) [ inl l ↦ inr (l, refl) | inr l ↦ inl (grind (arith, nat_tests)) ]
 
 module _ (k : ℕ) (o : Mark) (is : Some o ≡ told k) where
   pub told_there : k ≡ 0 → ⊥
   told_there z = elim (told_some k o is) [ inl q ↦ number_some o (sym q ∙ z) | inr q ↦ omega (arith, q.0) ]
 
   pub told_alone : one_sided (number_of o) ≡ one_sided k
-  told_alone = elim (told_some k o is) [
-    | inl q ↦ ap one_sided (sym q)
-    | inr q ↦ sided_both (number_of o) (λ z. omega (arith, q.1)) (λ z. omega (arith, q.1)) ∙ sym (sided_both k (λ z. omega (arith, q.0)) (λ z. omega (arith, q.0)))
-  ]
+  told_alone = elim (told_some k o is) [ inl q ↦ ap one_sided (sym q) | inr q ↦ grind (arith, nat_tests) ]
 
   pub told_joined : (m : Mark) → join (number_of o) (number_of m) ≡ join k (number_of m)
   told_joined m = elim (told_some k o is) [
     | inl q ↦ ap (λ n. join n (number_of m)) (sym q)
-    | inr q ↦ three (number_of o) (omega (arith, q.1)) m ∙ sym (three k (omega (arith, q.0)) m)
+    | inr q ↦ let a = number_small m in grind (arith, nat_tests)
   ]
-    where
-      three : (n : ℕ) → 2 < n → (m : Mark) → join n (number_of m) ≡ 3
-      three n up m = elim (join_cases n (number_of m)) [
-        | inl h ↦ absurd (omega (arith, h.0))
-        | inr r ↦ elim r [ inl h ↦ omega (arith, h.0, h.1, number_small m) | inr h ↦ h.2 ]
-      ]
 
   pub told_marked : (other : ℕ) → other < 3 → Marked other k ↔ Marked other (number_of o)
   told_marked other low = elim (told_some k o is) [
