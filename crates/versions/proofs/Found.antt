@@ -15,10 +15,7 @@ module _ (K : ℕ → Type 0) (n e bound : ℕ) (at to : ℕ → ℕ) (low : e <
   -- e is of the kind, and is put behind the others
   pub found_more : to n ≡ e → K e → Enumerates (n + 1) to (λ x. K x × (e ≤ x))
   found_more last own = record {
-    falls = λ i j less below. elim (cases_eq j n) [
-      | inl q ↦ omega (arith, same i (omega arith), (old.only i (omega arith)).1, ap to q, last)
-      | inr d ↦ omega (arith, same i (omega arith), same j (omega arith), old.falls i j less (omega arith))
-    ];
+    falls = λ i j less below. let up = (old.only i (omega arith)).1 in grind (arith, same i, same j, old.falls i j);
     only = λ i below. elim (cases_eq i n) [
       | inl q ↦ let z : to i ≡ e = ap to q ∙ last in (subst K (sym z) own, omega arith)
       | inr d ↦

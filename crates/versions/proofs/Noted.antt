@@ -4,6 +4,7 @@ use Rattle.std.proofs.lemmas.List.{get_or-set_same, get_or-set_other, take-set-l
 use Rattle.std.proofs.lemmas.List.Sums.{sum_by_push}
 use Rattle.std.proofs.lemmas.List.Sorted.{sum_by-IsPermutation}
 use Rattle.std.proofs.lemmas.Bool.{cases_eq, eq-eqb, ne_eqb, lt-ltb}
+use Rattle.std.proofs.lemmas.Grind.{common_steps}
 use Rattle.queue.specs.Heaps.{Pushed}
 use Rattle.versions.specs.declared.counters.Counters.{Counters}
 use Rattle.versions.specs.Marks.{one_sided, join}
@@ -87,36 +88,19 @@ module _ (w : List ℕ) (s : Counters) (e m p : ℕ) (l : Listed w s) (in' : e <
     seen_lt = room_left w s e l in' none
 
     cell_mark : get_or written (3 * s.room + e) 0 ≡ join (marks w s e) m
-    cell_mark =
-        let a = get_or-set_same w (3 * s.room + e) (join (marks w s e) m) 0 (omega (arith, l.size)) in
-        let b = get_or-set_other (set w (3 * s.room + e) (join (marks w s e) m)) (s.room + e) (3 * s.room + e) s.seen 0 (λ z. omega arith) in
-        let c = get_or-set_other (set (set w (3 * s.room + e) (join (marks w s e) m)) (s.room + e) s.seen) (2 * s.room + s.seen) (3 * s.room + e) e 0 (λ z. omega (arith, seen_lt)) in
-        c ∙ b ∙ a
+    cell_mark = let low = seen_lt in let size = l.size in grind (arith, common_steps)
 
     cell_place : get_or written (s.room + e) 0 ≡ s.seen
-    cell_place =
-        let a = get_or-set_same (set w (3 * s.room + e) (join (marks w s e) m)) (s.room + e) s.seen 0 (omega (arith, l.size, length-set w (3 * s.room + e) (join (marks w s e) m))) in
-        let b = get_or-set_other (set (set w (3 * s.room + e) (join (marks w s e) m)) (s.room + e) s.seen) (2 * s.room + s.seen) (s.room + e) e 0 (λ z. omega arith) in
-        b ∙ a
+    cell_place = let low = seen_lt in let size = l.size in grind (arith, common_steps)
 
     cell_back : get_or written (2 * s.room + s.seen) 0 ≡ e
-    cell_back =
-        get_or-set_same (set (set w (3 * s.room + e) (join (marks w s e) m)) (s.room + e) s.seen) (2 * s.room + s.seen) e 0
-        (omega (arith, l.size, seen_lt, length-set w (3 * s.room + e) (join (marks w s e) m), length-set (set w (3 * s.room + e) (join (marks w s e) m)) (s.room + e) s.seen))
+    cell_back = let low = seen_lt in let size = l.size in grind (arith, common_steps)
 
     cell_other : (k d : ℕ) → (k ≡ 3 * s.room + e → ⊥) → (k ≡ s.room + e → ⊥) → (k ≡ 2 * s.room + s.seen → ⊥) → get_or written k d ≡ get_or w k d
-    cell_other k d x y z =
-        get_or-set_other (set (set w (3 * s.room + e) (join (marks w s e) m)) (s.room + e) s.seen) (2 * s.room + s.seen) k e d z
-        ∙ get_or-set_other (set w (3 * s.room + e) (join (marks w s e) m)) (s.room + e) k s.seen d y
-        ∙ get_or-set_other w (3 * s.room + e) k (join (marks w s e) m) d x
+    cell_other k d x y z = grind (arith, common_steps)
 
     front_then : take s.queued written ≡ take s.queued w
-    front_then =
-        let small = l.within in
-        let low = seen_lt in
-        take-set-le s.queued (set (set w (3 * s.room + e) (join (marks w s e) m)) (s.room + e) s.seen) (2 * s.room + s.seen) e (omega arith)
-        ∙ take-set-le s.queued (set w (3 * s.room + e) (join (marks w s e) m)) (s.room + e) s.seen (omega arith)
-        ∙ take-set-le s.queued w (3 * s.room + e) (join (marks w s e) m) (omega arith)
+    front_then = let small = l.within in let low = seen_lt in grind (arith, common_steps)
 
     module _ (pushed : Pushed (λ a b. ltb b a) written s.queued e v) where
       behind : (k : ℕ) → s.queued + 1 ≤ k → get_or v k 0 ≡ get_or written k 0

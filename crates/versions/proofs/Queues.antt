@@ -23,7 +23,7 @@ sided_le m = grind (arith, nat_tests)
 
 open_le : (m : ℕ → ℕ) (xs : List ℕ) → open_in m xs ≤ length xs
 open_le m [] = omega arith
-open_le m (x ∷ xs) = omega (arith, open_le m xs, sum_by-cons (λ y. one_sided (m y)) x xs, sided_le (m x))
+open_le m (x ∷ xs) = grind (arith, nat_tests, open_le m xs, sum_by-cons (λ y. one_sided (m y)) x xs)
 
 module _ (w : List ℕ) (s : Counters) (l : Listed w s) (bound : ℕ) (q : Queued w s bound) where
   pub pending_le : s.pending ≤ s.queued
@@ -44,8 +44,4 @@ module _ (w : List ℕ) (s : Counters) (l : Listed w s) (bound : ℕ) (q : Queue
   ]
 
 pub heaped_same : (w v : List ℕ) (len : ℕ) → ((k d : ℕ) → k < len → get_or v k d ≡ get_or w k d) → Heaped (λ a b. ltb b a) w len → Heaped (λ a b. ltb b a) v len
-heaped_same w v len same h k d pos below =
-    let a = same k d below in
-    let b = same (parent k) d (omega arith) in
-    let c = h k d pos below in
-    cc
+heaped_same w v len same h k d pos below = grind (arith, same k d, same (parent k) d, h k d)

@@ -1,19 +1,16 @@
 -- Numbers that fall one by one: every number below n is among them just where the n-th from the end is n - 1.
-use Rattle.std.proofs.Common.{◌≡◌, ℕ, zero, suc, ◌+◌, ◌-◌, ◌<◌, ◌≤◌, sym, ap, ◌∙◌, subst, inl, inr, arith}
-use Rattle.std.proofs.lemmas.Bool.{cases_eq, cases_lt}
+use Rattle.std.proofs.Common.{◌≡◌, ℕ, zero, suc, ◌+◌, ◌-◌, ◌<◌, ◌≤◌, sym, ap, ◌∙◌, subst, arith}
 use Rattle.versions.specs.Versions.{Enumerates}
 
 module _ {K : ℕ → Type 0} (a : ℕ) (at : ℕ → ℕ) (e : Enumerates a at K) where
   -- a number has room below it for those that follow
   low : (d j : ℕ) → j + d + 1 ≡ a → a ≤ at j + j + 1
   low zero j is = omega arith
-  low (suc d) j is = omega (arith, low d (j + 1) (omega arith), e.falls j (j + 1) (omega arith) (omega arith))
+  low (suc d) j is = grind (arith, low d (j + 1), e.falls j (j + 1))
 
   high : (j i : ℕ) → j + i < a → at (j + i) + i ≤ at j
-  high j zero below = let z : j + 0 ≡ j = omega arith in omega (arith, ap at z)
-  high j (suc i) below =
-      let z : j + suc i ≡ j + i + 1 = omega arith in
-      omega (arith, ap at z, high j i (omega arith), e.falls (j + i) (j + i + 1) (omega arith) (omega arith))
+  high j zero below = grind arith
+  high j (suc i) below = grind (arith, high j i, e.falls (j + i) (j + i + 1))
 
   pub all_of : (n : ℕ) → n ≤ a → 0 < n → at (a - n) ≡ n - 1 → (x : ℕ) → x < n → K x
   all_of n le pos is x below =
@@ -28,34 +25,12 @@ module _ {K : ℕ → Type 0} (a : ℕ) (at : ℕ → ℕ) (e : Enumerates a at 
     place : (k : ℕ) → k < n → (i : ℕ) × (i < a) × (at i ≡ n - 1 - k)
     place k l = e.all (n - 1 - k) (all (n - 1 - k) (omega arith))
 
-    next : (k : ℕ) (l : k < n) (m : k + 1 < n) → (place k l).0 < (place (k + 1) m).0
-    next k l m =
-        let p = place k l in
-        let q = place (k + 1) m in
-        elim (cases_lt p.0 q.0) [
-          | inl h ↦ h
-          | inr h ↦ elim (cases_eq q.0 p.0) [
-            | inl z ↦ absurd (omega (arith, ap at z, p.2, q.2))
-            | inr d ↦ absurd (omega (arith, e.falls q.0 p.0 (omega arith) p.1, p.2, q.2))
-          ]
-        ]
-
     rises : (k : ℕ) (pos : 0 < n) (l : k < n) → (i : ℕ) × (i < a) × (at i ≡ n - 1 - k) × ((place 0 pos).0 + k ≤ i)
     rises zero pos l = let p = place 0 pos in (p.0, p.1, p.2, omega arith)
     rises (suc k) pos l =
         let p = rises k pos (omega arith) in
-        let q = place (suc k) l in (
-          q.0,
-          q.1,
-          q.2,
-          elim (cases_lt p.0 q.0) [
-            | inl h ↦ omega (arith, p.3)
-            | inr h ↦ elim (cases_eq q.0 p.0) [
-              | inl z ↦ absurd (omega (arith, ap at z, p.2, q.2))
-              | inr d ↦ absurd (omega (arith, e.falls q.0 p.0 (omega arith) p.1, p.2, q.2))
-            ]
-          ],
-        )
+        let q = place (suc k) l in
+        (q.0, q.1, q.2, grind (arith, e.falls q.0 p.0))
 
     pub of_all : 0 < n → (n ≤ a) × (at (a - n) ≡ n - 1)
     of_all pos =
