@@ -5,19 +5,15 @@ use events::{Name, SiblingOrder};
 use queue::order::TotalOrder;
 
 // Names, the one that comes before the others first.
-#[derive(Clone, Copy)]
-pub struct ByName<O> {
-    pub order: O,
+#[derive_where(Clone, Copy)]
+pub struct ByName<'a, O> {
+    pub order: &'a O,
 }
 
-impl<O: SiblingOrder> TotalOrder<Name> for ByName<O> {
+impl<O: SiblingOrder> TotalOrder<Name> for ByName<'_, O> {
     ghost first = { O.SiblingOrder.before };
 
-    ghost irreflexive = { Prim.search rules };
-
-    ghost transitive = { Prim.search rules };
-
-    ghost total = { Prim.search rules };
+    ghost total = { record { irreflexive = Prim.search rules; transitive = Prim.search rules; total = Prim.search rules } };
 
     fn comes_first(&self, a: &Name, b: &Name) -> bool {
         self.order.precedes(*a, *b)

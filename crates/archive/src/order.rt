@@ -12,7 +12,7 @@ use stores::EventStore;
 // The work list has four cells for each event of the store's capacity, and the list of names one for each event
 // held; what they hold before does not matter. Then cell i of the work list has the event that is written as
 // number i, and the cell `capacity + e` the archive number of event e.
-pub fn archive_order<S: EventStore, O: SiblingOrder + Copy>(
+pub fn archive_order<S: EventStore, O: SiblingOrder>(
     store: &S,
     order: &O,
     work: &mut [u32],
@@ -30,7 +30,7 @@ pub fn archive_order<S: EventStore, O: SiblingOrder + Copy>(
         return Err(BookFault::Short { needed: count });
     }
     clear(work, room, count);
-    let by_name = ByName { order: *order };
+    let by_name = ByName { order };
     let len = start(store, &by_name, work, names);
     Ok(write_all(store, &by_name, work, names, len))
 }
