@@ -2,6 +2,7 @@ mod Counting
 mod Stored
 mod Placing
 mod Cells
+mod Held
 mod Lines
 mod Logs
 mod Writing

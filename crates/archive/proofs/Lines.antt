@@ -1,5 +1,6 @@
 -- The events in hand, taken one after another from a line or in the order of their numbers.
-use Rattle.std.proofs.Common.{◌≡◌, ℕ, zero, suc, ◌+◌, ◌-◌, ◌<◌, ◌≤◌, Bool, cond, eqb, List, [], ◌∷◌, length, take, sym, refl, ap, ◌∙◌, subst, inl, inr, arith}
+use Rattle.std.proofs.Common.{◌≡◌, ℕ, zero, suc, ◌+◌, ◌-◌, ◌<◌, ◌≤◌, cond, eqb, List, [], ◌∷◌, length, take, sym, refl, ap, ◌∙◌, subst, inl, inr, arith, rules, Option, Some, None, IfSome}
+use Rattle.std.specs.Option.{unwrap_or}
 use Rattle.std.proofs.lemmas.Bool.{cases_lt, eq-eqb, ne_eqb}
 use Rattle.events.specs.declared.name.Name.{Name}
 use Rattle.events.specs.Parts.{StoredEvent}
@@ -7,8 +8,8 @@ use Rattle.events.specs.WellFormed.{WellFormed}
 use Rattle.stores.proofs.Asked.{name_below}
 use Rattle.archive.specs.Times.{times_numbered}
 use Rattle.archive.specs.Parts.{none, behind_of, Chain}
-use Rattle.archive.specs.Waiting.{Waiting, Handed, Settled, Queue}
-use Rattle.archive.specs.Calls.{Cleared, Placed}
+use Rattle.archive.specs.Waiting.{Waiting, Handed, InHand, Settled}
+use Rattle.archive.specs.Calls.{Cleared, Held, Placed}
 use Rattle.archive.proofs.Counting.{one_number, fewer_numbers}
 use Rattle.archive.proofs.Placing.{chain_kept, alone}
 
@@ -88,32 +89,63 @@ module _ (es : List StoredEvent) (wf : WellFormed es) (room : ℕ) (inside : len
   first_in_hand cells w [] c n = absurd (n c)
   first_in_hand cells w (v ∷ vs) c n = (vs, ap (λ u. u ∷ vs) (sym c.0), subst (λ u. Chain room cells (behind_of room cells u) vs) (sym c.0) c.1)
 
-  pub first_below : (cells : List ℕ) (queue : List Name) (len w : ℕ) → Handed es room cells queue len w → (w ≡ none → ⊥) → w < length es
-  first_below cells queue len w h n =
-      let r = first_in_hand cells w h.1 h.3 n in
-      (h.2.hands w (subst (λ ws. 1 ≤ times_numbered ws w) (sym r.1) (elim (one_number w w) [ inl s ↦ let k = s.1 in omega (arith, k) | inr s ↦ absurd (s.0 refl) ]))).0
-
-  pub handed_more : (before : Name → Name → Bool) (cells : List ℕ) (queue : List Name) (len w : ℕ) (cells' : List ℕ) (queue' : List Name) (len' : ℕ)
-      → (h : Handed es room cells queue len w) → Queue before es queue len → (w ≡ none → ⊥) → Placed before es room w cells queue len cells' queue' len'
-      → ((g : Handed es room cells' queue' len' (behind_of room cells w)) × (suc (length g.1) ≡ length h.1)) × Queue before es queue' len'
-  handed_more before cells queue len w cells' queue' len' h q n p =
+  pub handed_more : (cells : List ℕ) (queue : List Name) (len w : ℕ) (cells' : List ℕ) (queue' : List Name) (len' : ℕ)
+      → (h : Handed es room cells queue len w) → (w ≡ none → ⊥) → Placed es room w cells queue len cells' queue' len'
+      → (g : Handed es room cells' queue' len' (behind_of room cells w)) × (suc (length g.1) ≡ length h.1)
+  handed_more cells queue len w cells' queue' len' h n p =
       let r = first_in_hand cells w h.1 h.3 n in
       let was : Waiting es room cells (take len queue) h.0 (w ∷ r.0) = subst (λ ws. Waiting es room cells (take len queue) h.0 ws) r.1 h.2 in
-      let s = p.settles h.0 r.0 q was in
+      let s = p.settles h.0 r.0 was in
       let a = (alone es wf room cells cells (take len queue) h.0 r.0 w was 0).1 in (
         (
-          (
-            s.0.0,
-            r.0,
-            s.0.1,
-            chain_kept room cells cells' (behind_of room cells w) r.0
-                (λ v i. p.behind v (λ z. let j : 1 ≤ times_numbered r.0 w = rw z at i in omega (arith, a, j)) (let b = (was.hands v (omega (arith, i))).0 in omega (arith, b, inside)))
-                r.2,
-          ),
-          ap length (sym r.1),
+          s.0,
+          r.0,
+          s.1,
+          chain_kept room cells cells' (behind_of room cells w) r.0
+              (λ v i. p.behind v (λ z. let j : 1 ≤ times_numbered r.0 w = rw z at i in omega (arith, a, j)) (let b = (was.hands v (omega (arith, i))).0 in omega (arith, b, inside)))
+              r.2,
         ),
-        s.1,
+        ap length (sym r.1),
       )
+
+  -- the line's first event is in hand, and others are
+  pub handed_first : (cells : List ℕ) (queue : List Name) (len w : ℕ) → Handed es room cells queue len w → (w ≡ none → ⊥) → InHand es room cells queue len w
+  handed_first cells queue len w h n =
+      let r = first_in_hand cells w h.1 h.3 n in
+      (h.0, (r.0, subst (λ ws. Waiting es room cells (take len queue) h.0 ws) r.1 h.2))
+
+  -- a line's first event is what its cell holds
+  pub held_first : (cells : List ℕ) (queue : List Name) (len w : ℕ) (o : Option ℕ) → Handed es room cells queue len w → Held (length es) w o → unwrap_or o none ≡ w
+  held_first cells queue len w (Some k) h e = e.0
+  held_first cells queue len w None h e = go h.1 h.2 h.3
+    where
+      go : (ws : List ℕ) → Waiting es room cells (take len queue) h.0 ws → Chain room cells w ws → none ≡ w
+      go [] was c = sym c
+      go (v ∷ vs) was c =
+          let b = (was.hands v (elim (one_number v v) [ inl r ↦ let k = r.1 in omega (arith, k) | inr r ↦ absurd (r.0 refl) ])).0 in
+          absurd (omega (arith, b, c.0, e))
+
+  pub held_below : (w : ℕ) (o : Option ℕ) → Held (length es) w o → IfSome o (λ k. k < length es)
+  held_below w (Some k) e = omega (arith, e.0, e.1)
+  held_below w None e = search rules
+
+  -- the first event in hand is placed: what its cell held is the first of the rest
+  pub next_waits : (cells : List ℕ) (queue : List Name) (len w : ℕ) (cells' : List ℕ) (queue' : List Name) (len' : ℕ) (o next : Option ℕ) (r count : ℕ) → r ≡ room → count ≡ length es
+      → o ≡ Some w → w < length es → Handed es room cells queue len (unwrap_or o none) → Placed es room w cells queue len cells' queue' len' → Held count (behind_of r cells w) next
+      → Handed es room cells' queue' len' (unwrap_or next none) × IfSome next (λ k. k < length es)
+      × (suc (steps (length es) room cells' (unwrap_or next none)) ≤ steps (length es) room cells (unwrap_or o none))
+  next_waits cells queue len w cells' queue' len' o next r count room-is count-is is less h p e =
+      let first : unwrap_or o none ≡ w = ap (λ q. unwrap_or q none) is in
+      let handed = subst (λ v. Handed es room cells queue len v) first h in
+      let more = handed_more cells queue len w cells' queue' len' handed (λ z. omega (arith, z, less, inside, small)) p in
+      let held = subst (λ m. Held m (behind_of room cells w) next) count-is (subst (λ q. Held count (behind_of q cells w) next) room-is e) in
+      let at = held_first cells' queue' len' (behind_of room cells w) next more.0 held in
+      let a = handed_steps cells' queue' len' (behind_of room cells w) more.0 in
+      let b = handed_steps cells queue len w handed in
+      let x = ap (λ v. steps (length es) room cells' v) at in
+      let y = ap (λ v. steps (length es) room cells v) first in
+      let f = more.1 in
+      (subst (λ v. Handed es room cells' queue' len' v) (sym at) more.0, held_below (behind_of room cells w) next held, omega (arith, a, b, x, y, f))
 
   pub handed_none : (cells : List ℕ) (queue : List Name) (len w : ℕ) → Handed es room cells queue len w → w ≡ none → Settled es room cells queue len
   handed_none cells queue len w h n = go h.1 h.2 h.3

@@ -5,8 +5,7 @@ use Rattle.std.specs.List.{slice_get}
 use Rattle.std.specs.Option.{option_map, option_flatten}
 use Rattle.events.specs.declared.name.Name.{Name}
 use Rattle.events.specs.Parts.{StoredEvent}
-use Rattle.events.specs.WellFormed.{WellFormed}
-use Rattle.stores.specs.Questions.{name_at, parent_at}
+use Rattle.stores.specs.Questions.{name_at, parents_at, parent_at}
 use Rattle.stores.specs.Together.{some_is, none_some}
 use Rattle.fugue.specs.Names.{◌∈◌}
 use Rattle.archive.specs.Times.{times_named}
@@ -30,12 +29,9 @@ pub event_with_parent : (o : Option StoredEvent) (k p : ℕ) → option_flatten 
 event_with_parent None k p h = absurd (none_some h)
 event_with_parent (Some e) k p h = (e, refl, h)
 
-pub parent_few : (es : List StoredEvent) → WellFormed es → (w k p : ℕ) → parent_at es w k ≡ Some p → k < 4
-parent_few es f w k p h =
-    let r = event_with_parent (slice_get es w) k p h in
-    let l = nth_below r.0.parents k p r.2 in
-    let m = (f.parents w r.0 r.1).few in
-    omega (arith, l, m)
+-- parent k of an event is parent k of the list of its parents
+pub parent_in : (es : List StoredEvent) (e : ℕ) (ps : List ℕ) → Some ps ≡ parents_at es e → (k : ℕ) → parent_at es e k ≡ slice_get ps k
+parent_in es e ps h k = ap (λ (o : Option (List ℕ)). option_flatten (option_map (λ qs. slice_get qs k) o)) (sym h)
 
 pub name_of : (es : List StoredEvent) (w : ℕ) → w < length es → (x : Name) × (name_at es w ≡ Some x)
 name_of es w h = let r = nth_some es w h in (r.0.name, ap (option_map (λ (e : StoredEvent). e.name)) r.1)

@@ -1,10 +1,15 @@
 -- What the calls within leave.
-use Rattle.std.specs.Prelude.{◌≡◌, ℕ, ◌<◌, Bool, List, ◌∷◌, length, take, Some, None, Option, ◌≢◌}
+use Rattle.std.specs.Prelude.{◌≡◌, ℕ, ◌<◌, ◌≤◌, List, ◌∷◌, length, take, Some, None, Option, ◌≢◌}
 use Rattle.events.specs.declared.name.Name.{Name}
 use Rattle.events.specs.Parts.{StoredEvent}
 use Rattle.stores.specs.Questions.{parent_at}
 use Rattle.archive.specs.Parts.{none, number_of, first_of, behind_of, Open, Done}
-use Rattle.archive.specs.Waiting.{Waiting, Queue}
+use Rattle.archive.specs.Waiting.{Waiting}
+
+-- a cell holds a number below count, or stands for none
+abbrev pub Held : ℕ → ℕ → Option ℕ → Type 0
+Held count cell (Some k) = (k ≡ cell) × (cell < count)
+Held count cell None = count ≤ cell
 
 -- nothing is written, and no line has an event
 abbrev pub Cleared : List ℕ → ℕ → ℕ → Type 0
@@ -20,6 +25,6 @@ Awaited events room cells e (Some p) = (p < length events) × Open events room c
 Awaited events room cells e None = (k p : ℕ) → parent_at events e k ≡ Some p → Done events room cells p
 
 -- the event e, which was in hand, is in the queue or in a line; nothing else changed but the head of that line
-pub record Placed (before : Name → Name → Bool) (events : List StoredEvent) (room e : ℕ) (cells : List ℕ) (queue : List Name) (len : ℕ) (cells' : List ℕ) (queue' : List Name) (len' : ℕ) : Type 0 where
+pub record Placed (events : List StoredEvent) (room e : ℕ) (cells : List ℕ) (queue : List Name) (len : ℕ) (cells' : List ℕ) (queue' : List Name) (len' : ℕ) : Type 0 where
   pub behind : (v : ℕ) → v ≢ e → v < room → behind_of room cells' v ≡ behind_of room cells v
-  pub settles : (lines : ℕ → List ℕ) (hand : List ℕ) → Queue before events queue len → Waiting events room cells (take len queue) lines (e ∷ hand) → ((lines' : ℕ → List ℕ) × Waiting events room cells' (take len' queue') lines' hand) × Queue before events queue' len'
+  pub settles : (lines : ℕ → List ℕ) (hand : List ℕ) → Waiting events room cells (take len queue) lines (e ∷ hand) → (lines' : ℕ → List ℕ) × Waiting events room cells' (take len' queue') lines' hand

@@ -1,9 +1,8 @@
 -- Where the unwritten events are: in the queue, in a line at one of their parents, or in hand.
-use Rattle.std.specs.Prelude.{◌≡◌, ℕ, ◌+◌, ◌<◌, ◌≤◌, Bool, ◌⊎◌, List, [], length, take, Some, ◌≢◌}
+use Rattle.std.specs.Prelude.{◌≡◌, ℕ, ◌+◌, ◌<◌, ◌≤◌, ◌⊎◌, List, [], ◌∷◌, length, take, Some, ◌≢◌}
 use Rattle.events.specs.declared.name.Name.{Name}
 use Rattle.events.specs.Parts.{StoredEvent}
 use Rattle.stores.specs.Questions.{name_at, parent_at}
-use Rattle.queue.specs.Heaps.{Heaped}
 use Rattle.archive.specs.Times.{times_named, times_numbered}
 use Rattle.archive.specs.Parts.{first_of, Open, ReadyAt, Chain}
 
@@ -26,8 +25,6 @@ Settled events room cells queue len = (lines : ℕ → List ℕ) × Waiting even
 abbrev pub Handed : List StoredEvent → ℕ → List ℕ → List Name → ℕ → ℕ → Type 0
 Handed events room cells queue len w = (lines : ℕ → List ℕ) × (hand : List ℕ) × Waiting events room cells (take len queue) lines hand × Chain room cells w hand
 
--- a queue of names, in heap order, in a list that has a cell for each event
-pub record Queue (before : Name → Name → Bool) (events : List StoredEvent) (queue : List Name) (len : ℕ) : Type 0 where
-  pub within : len ≤ length queue
-  pub fits : length events ≤ length queue
-  pub heaped : Heaped before queue len
+-- but for event e, and others
+abbrev pub InHand : List StoredEvent → ℕ → List ℕ → List Name → ℕ → ℕ → Type 0
+InHand events room cells queue len e = (lines : ℕ → List ℕ) × ((hand : List ℕ) × Waiting events room cells (take len queue) lines (e ∷ hand))

@@ -3,8 +3,8 @@
 
 pub mod by_name;
 pub mod order;
-mod release;
-mod waiting;
+mod unwritten;
+mod work_list;
 
 pub use by_name::ByName;
 pub use order::archive_order;

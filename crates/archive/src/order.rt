@@ -3,9 +3,10 @@ ghost use Rattle.std.specs.Prelude.{◌≡◌, false, length, is_ok};
 ghost use Rattle.archive.specs.Archived.{ArchiveAnswer};
 
 use crate::by_name::ByName;
-use crate::release::{start, write_all};
-use crate::waiting::clear;
+use crate::unwritten::write_events;
+use crate::work_list::WorkList;
 use events::{BookFault, Name, SiblingOrder};
+use queue::Queue;
 use stores::EventStore;
 
 // The order in which the events are archived, and each event's number in it; answers how many events there are.
@@ -21,16 +22,16 @@ pub fn archive_order<S: EventStore, O: SiblingOrder>(
     ensures answer { ArchiveAnswer O.SiblingOrder.before (S.EventStore.events store.now) (S.EventStore.room store.now) (length work.old) (length names.old) work.new result }
     ensures kept { is_ok result ≡ false → (work.new ≡ work.old) × (names.new ≡ names.old) }
 {
-    let room = store.capacity();
-    let count = store.count();
-    if work.len() < 4 * room {
-        return Err(BookFault::Short { needed: 4 * room });
+    let needed = 4 * store.capacity();
+    if work.len() < needed {
+        return Err(BookFault::Short { needed });
     }
-    if names.len() < count {
-        return Err(BookFault::Short { needed: count });
+    let needed = store.count();
+    if names.len() < needed {
+        return Err(BookFault::Short { needed });
     }
-    clear(work, room, count);
-    let by_name = ByName { order };
-    let len = start(store, &by_name, work, names);
-    Ok(write_all(store, &by_name, work, names, len))
+    let order = ByName { order };
+    let mut work = WorkList::over(work, store.capacity(), needed);
+    let mut queue = Queue::over(names, &order);
+    Ok(write_events(store, &mut work, &mut queue))
 }

@@ -22,36 +22,20 @@ fn delete(name: Name, parents: &[u16]) -> NumberedEvent {
     }
 }
 
-// The number that was answered.
-fn answered(r: Result<usize, BookFault>) -> Option<usize> {
-    match r {
-        Ok(n) => Some(n),
-        Err(_) => None,
-    }
-}
-
-// The length that was needed.
-fn needed(r: Result<usize, BookFault>) -> Option<usize> {
-    match r {
-        Err(BookFault::Short { needed }) => Some(needed),
-        _ => None,
-    }
-}
-
 // Event 3 waits at event 1, then at event 2; event 4 is the first to be written.
 #[test]
 fn the_first_name_is_written_first(rt: HostRuntime) -> Result<(), Fail> {
     let mut store = MemoryStore::with_capacity(rt.alloc(), 6)?;
-    assert_eq!(rt; answered(store.append(delete(name(9), &[]))), Some(0));
-    assert_eq!(rt; answered(store.append(delete(name(3), &[0]))), Some(1));
-    assert_eq!(rt; answered(store.append(delete(name(5), &[0]))), Some(2));
-    assert_eq!(rt; answered(store.append(delete(name(1), &[1, 2]))), Some(3));
-    assert_eq!(rt; answered(store.append(delete(name(2), &[]))), Some(4));
+    assert_eq!(rt; store.append(delete(name(9), &[])), Ok(0));
+    assert_eq!(rt; store.append(delete(name(3), &[0])), Ok(1));
+    assert_eq!(rt; store.append(delete(name(5), &[0])), Ok(2));
+    assert_eq!(rt; store.append(delete(name(1), &[1, 2])), Ok(3));
+    assert_eq!(rt; store.append(delete(name(2), &[])), Ok(4));
     let mut work = [77; 24];
     let mut names = [name(0); 5];
     assert_eq!(rt;
-        answered(archive_order(&store, &AuthorFirst, &mut work, &mut names)),
-        Some(5)
+        archive_order(&store, &AuthorFirst, &mut work, &mut names),
+        Ok(5)
     );
     let written = [4, 0, 1, 2, 3];
     let numbers = [1, 2, 3, 4, 0];
@@ -63,16 +47,16 @@ fn the_first_name_is_written_first(rt: HostRuntime) -> Result<(), Fail> {
 #[test]
 fn short_lists_are_refused(rt: HostRuntime) -> Result<(), Fail> {
     let mut store = MemoryStore::with_capacity(rt.alloc(), 2)?;
-    assert_eq!(rt; answered(store.append(delete(name(1), &[]))), Some(0));
+    assert_eq!(rt; store.append(delete(name(1), &[])), Ok(0));
     let mut work = [0; 8];
     let mut names = [name(0); 1];
     assert_eq!(rt;
-        needed(archive_order(&store, &AuthorFirst, &mut work[0..7], &mut names)),
-        Some(8)
+        archive_order(&store, &AuthorFirst, &mut work[..7], &mut names),
+        Err(BookFault::Short { needed: 8 })
     );
     assert_eq!(rt;
-        needed(archive_order(&store, &AuthorFirst, &mut work, &mut names[0..0])),
-        Some(1)
+        archive_order(&store, &AuthorFirst, &mut work, &mut names[..0]),
+        Err(BookFault::Short { needed: 1 })
     );
     Ok(())
 }

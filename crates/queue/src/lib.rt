@@ -2,4 +2,7 @@
 #![tactic(auto)]
 
 pub mod heap;
+pub mod lent;
 pub mod order;
+
+pub use lent::Queue;
