@@ -4,20 +4,20 @@ use mathlib.Core.Logic.{∥∥₁_map}
 use lib.ListN.{length-map}
 use Rattle.std.specs.List.{slice_get}
 use Rattle.std.proofs.lemmas.List.{length_push}
-use Rattle.std.proofs.lemmas.Option.{slice_get-get_or}
+use Rattle.std.proofs.lemmas.Option.{none-some, same_Some, slice_get-get_or}
 use Rattle.std.proofs.lemmas.Bool.{cases_order}
 use Rattle.events.specs.declared.name.Name.{Name}
 use Rattle.name_index.specs.declared.node.Node.{Node}
 use Rattle.name_index.specs.Numbers.{Distinct, Absent}
 use Rattle.name_index.specs.Walks.{turn_of, leaf, hung, link_at, onward, place, name_of, Agree, Sound}
 use Rattle.name_index.specs.Ends.{Free}
-use Rattle.name_index.proofs.Links.{some_is, none_some, nth_push_cases, link_below, hung_at, link_kept, link_cases, link_hung, names_push, names_hung}
+use Rattle.name_index.proofs.Links.{nth_push_cases, link_below, hung_at, link_kept, link_cases, link_hung, names_push, names_hung}
 
 -- ---- walks
 
 -- the node before the last step
 pub step_back : (ns : List Node) (b : Bool) (o : Option ℕ) (j : ℕ) → onward ns b o ≡ Some j → (m : ℕ) × (o ≡ Some m) × (link_at ns m b ≡ Some j)
-step_back ns b None j e = absurd (none_some e)
+step_back ns b None j e = cc
 step_back ns b (Some m) j e = (m, refl, e)
 
 -- one step more
@@ -33,7 +33,7 @@ ended ns x d e (suc m) =
 
 -- a walk stays among the nodes
 pub place_below : (ns : List Node) → Sound ns → 0 < length ns → (x : Name) (d k : ℕ) → place ns x d ≡ Some k → k < length ns
-place_below ns s h x zero k e = let z : 0 ≡ k = some_is e in omega arith
+place_below ns s h x zero k e = let z : 0 ≡ k = same_Some _ _ e in omega arith
 place_below ns s h x (suc d) k e =
     let b = step_back ns (turn_of x d) (place ns x d) k e in (s.rising b.0 (turn_of x d) k b.2).1
 
@@ -132,29 +132,30 @@ meets_bare ns bare x y zero (suc e) k p q =
 meets_bare ns bare x y (suc d) e k p q =
     let b = step_back ns (turn_of x d) (place ns x d) k p in absurd (bare b.0 (turn_of x d) k b.2)
 
-pub sound_none : Sound []
-sound_none = record {
-  rising = λ k b j e. absurd (none_some e);
-  walked = λ k x e. absurd (none_some e);
-  meets = meets_bare [] (λ m b j e. none_some e);
-  apart = λ i j x e f. absurd (none_some e);
-}
+pub sound_none : (ns : List Node) → ns ≡ [] → ∥ Sound ns ∥₁
+sound_none ns e =
+    let none : Sound [] = record {
+      rising = λ k b j h. cc;
+      walked = λ k x h. cc;
+      meets = meets_bare [] (λ m b j h. cc);
+      apart = λ i j x h f. cc;
+    } in ∣ subst Sound (sym e) none ∣₁
 
 leaf_bare : (x : Name) (m : ℕ) (b : Bool) (j : ℕ) → link_at (leaf x ∷ []) m b ≡ Some j → ⊥
-leaf_bare x zero true j e = none_some e
-leaf_bare x zero false j e = none_some e
-leaf_bare x (suc m) b j e = none_some e
+leaf_bare x zero true j e = none-some _ e
+leaf_bare x zero false j e = none-some _ e
+leaf_bare x (suc m) b j e = none-some _ e
 
 leaf_walked : (x : Name) (k : ℕ) (y : Name) → slice_get (x ∷ []) k ≡ Some y → (d : ℕ) × (place (leaf x ∷ []) y d ≡ Some k)
 leaf_walked x zero y e = (0, refl)
-leaf_walked x (suc k) y e = absurd (none_some e)
+leaf_walked x (suc k) y e = cc
 
 pub sound_one : (x : Name) → Sound (leaf x ∷ [])
 sound_one x = record {
   rising = λ k b j e. absurd (leaf_bare x k b j e);
   walked = leaf_walked x;
   meets = meets_bare (leaf x ∷ []) (leaf_bare x);
-  apart = distinct_push [] x (λ i j y e f. absurd (none_some e)) (λ k e. none_some e);
+  apart = distinct_push [] x (λ i j y e f. cc) (λ k e. none-some _ e);
 }
 
 pub sound_hung : (ns : List Node) (x : Name) (k d : ℕ) (n : Node) → Sound ns → Free ns x k d → Absent (map name_of ns) x → slice_get ns k ≡ Some n → Sound (hung_at ns k n (turn_of x d) (length ns) x)
@@ -192,7 +193,7 @@ pub grown_first : (ns ns' : List Node) (x : Name) → ns ≡ [] → ns' ≡ ns +
 grown_first ns ns' x none e = (
   ∣ subst Sound (sym (e ∙ ap (λ (l : List Node). l ++ leaf x ∷ []) none)) (sound_one x) ∣₁,
   ap (map name_of) e ∙ names_push ns x,
-  λ k h. none_some (sym (ap (λ (l : List Node). slice_get (map name_of l) k) none) ∙ h),
+  λ k h. none-some _ (sym (ap (λ (l : List Node). slice_get (map name_of l) k) none) ∙ h),
 )
 
 pub grown_hung : (ns ns' : List Node) (x : Name) (k d : ℕ) → ∥ Sound ns ∥₁ → Free ns x k d → Absent (map name_of ns) x → ns' ≡ hung ns k (turn_of x d) x → Grown ns x ns'

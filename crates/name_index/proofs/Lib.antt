@@ -1,4 +1,5 @@
 pub mod EveryIndex
+mod Counts
 mod Links
 mod Growth
 mod Bits

@@ -1,15 +1,16 @@
 -- One step of the walk for a name, and its end.
-use Rattle.std.proofs.Common.{◌≡◌, ℕ, suc, ◌+◌, ◌-◌, ◌<◌, ◌≤◌, Bool, List, map, length, Some, None, sym, ap, ◌∙◌, inl, inr, arith}
+use Rattle.std.proofs.Common.{◌≡◌, ℕ, suc, ◌+◌, ◌-◌, ◌<◌, ◌≤◌, Bool, List, map, length, get_or, Some, None, Option, sym, refl, ap, ◌∙◌, inl, inr, arith}
 use mathlib.Core.Logic.{∥∥₁_elim}
 use native.Mathlib.Bridge.{le_prop}
 use Rattle.std.specs.List.{slice_get}
+use Rattle.std.proofs.lemmas.Option.{none-some, same_Some, slice_get_read}
 use Rattle.std.proofs.lemmas.Bool.{cases_eq, cases_lt}
 use Rattle.events.specs.declared.name.Name.{Name}
 use Rattle.name_index.specs.declared.node.Node.{Node}
 use Rattle.name_index.specs.Numbers.{Absent}
 use Rattle.name_index.specs.Walks.{turn_of, link_of, link_at, place, name_of, Sound}
 use Rattle.name_index.specs.Ends.{Free}
-use Rattle.name_index.proofs.Links.{some_is, none_some, name_read}
+use Rattle.name_index.proofs.Links.{name_of_read}
 use Rattle.name_index.proofs.Growth.{step_on, ended}
 use Rattle.name_index.proofs.Bits.{names_same}
 
@@ -21,7 +22,7 @@ ahead_more : (ns : List Node) (x : Name) (d k : ℕ) → place ns x d ≡ Some k
 ahead_more ns x d k p other h j e q r =
     let l = h j e q r in
     elim (cases_eq d e) [
-      | inl z ↦ absurd (other (ap (slice_get (map name_of ns)) (some_is (sym p ∙ ap (place ns x) z ∙ r)) ∙ q))
+      | inl z ↦ absurd (other (ap (slice_get (map name_of ns)) (same_Some _ _ (sym p ∙ ap (place ns x) z ∙ r)) ∙ q))
       | inr z ↦ omega arith
     ]
 
@@ -33,7 +34,7 @@ absent_at ns t x d k p none h j q =
     let w = s.walked j x q in
     let l = h j w.0 q w.1 in
     let z : w.0 ≡ (w.0 - suc d) + suc d = omega arith in
-    none_some (sym (ended ns x (suc d) (step_on ns x d k None p none) (w.0 - suc d)) ∙ ap (place ns x) (sym z) ∙ w.1))
+    none-some _ (sym (ended ns x (suc d) (step_on ns x d k None p none) (w.0 - suc d)) ∙ ap (place ns x) (sym z) ∙ w.1))
 
 -- a walk that has taken 44 steps has come to its name
 pub long_walk : (ns : List Node) → Sound ns → (x y : Name) (d k : ℕ) → place ns x d ≡ Some k → slice_get (map name_of ns) k ≡ Some y → 44 ≤ d → x ≡ y
@@ -47,9 +48,12 @@ abbrev pub Stands : List Node → Name → ℕ → ℕ → Type 0
 Stands ns x k d = (k < length ns) × (d ≤ 44) × (place ns x d ≡ Some k) × Ahead ns x d
 
 -- at node n, which has another name
-module _ (ns : List Node) (t : ∥ Sound ns ∥₁) (x : Name) (k d : ℕ) (n : Node) (at : slice_get ns k ≡ Some n) (other : n.name ≡ x → ⊥) (here : Stands ns x k d) where
+module _ (ns : List Node) (t : ∥ Sound ns ∥₁) (x : Name) (k d : ℕ) (n : Node) (here : Stands ns x k d) (read : n ≡ get_or ns k n) (other : n.name ≡ x → ⊥) where
+  at : slice_get ns k ≡ Some n
+  at = slice_get_read ns (length ns) k n refl here.0 read
+
   passed : Ahead ns x (d + 1)
-  passed = ahead_more ns x d k here.2 (λ e. other (some_is (sym (name_read ns k n at) ∙ e))) here.3
+  passed = ahead_more ns x d k here.2 (λ e. other (same_Some _ _ (sym (name_of_read ns k n at) ∙ e))) here.3
 
   short : d < 44
   short =
@@ -57,17 +61,20 @@ module _ (ns : List Node) (t : ∥ Sound ns ∥₁) (x : Name) (k d : ℕ) (n : 
       (λ s.
       elim (cases_lt d 44) [
         | inl l ↦ l
-        | inr l ↦ absurd (other (sym (long_walk ns s x n.name d k here.2 (name_read ns k n at) l)))
+        | inr l ↦ absurd (other (sym (long_walk ns s x n.name d k here.2 (name_of_read ns k n at) l)))
       ])
 
-  pub ends_free : link_of (turn_of x d) (Some n) ≡ None → Free ns x k d × Absent (map name_of ns) x × (d < 44)
-  ends_free e =
-      let none = ap (link_of (turn_of x d)) at ∙ e in
+  link_is : (b : Bool) (o : Option ℕ) → b ≡ turn_of x d → o ≡ link_of b (Some n) → link_at ns k (turn_of x d) ≡ o
+  link_is b o turned e = ap (link_of (turn_of x d)) at ∙ ap (λ (c : Bool). link_of c (Some n)) (sym turned) ∙ sym e
+
+  pub ends_free : (b : Bool) → b ≡ turn_of x d → None ≡ link_of b (Some n) → Free ns x k d × Absent (map name_of ns) x × (d < 44)
+  ends_free b turned e =
+      let none = link_is b None turned e in
       ((here.2, here.0, none), absent_at ns t x d k here.2 none passed, short)
 
-  pub goes_on : (j : ℕ) → link_of (turn_of x d) (Some n) ≡ Some j → Stands ns x j (d + 1)
-  goes_on j e =
-      let link = ap (link_of (turn_of x d)) at ∙ e in
+  pub goes_on : (b : Bool) (j : ℕ) → b ≡ turn_of x d → Some j ≡ link_of b (Some n) → Stands ns x j (d + 1)
+  goes_on b j turned e =
+      let link = link_is b (Some j) turned e in
       let z : suc d ≡ d + 1 = omega arith in
       let lt = short in (
         ∥∥₁_elim t le_prop (λ s. (s.rising k (turn_of x d) j link).1),

@@ -22,6 +22,7 @@ impl NameIndex {
     }
 
     // How many names there are.
+    #[tactic(auto, using(crate::proofs::Counts::counted))]
     pub fn len(&self) -> usize
         ensures answer { result ≡ length (names_of self.now) }
     {
@@ -36,14 +37,11 @@ impl NameIndex {
     }
 
     // Name n, or nothing past the last.
+    #[tactic(auto, using(crate::proofs::Links::name_read, std::proofs::lemmas::Option::slice_get_cases))]
     pub fn get(&self, n: usize) -> Option<Name>
         ensures answer { result ≡ slice_get (names_of self.now) n }
     {
-        if n < self.nodes.len() {
-            Some(self.nodes[n].name)
-        } else {
-            None
-        }
+        self.nodes.get(n).map(|node| node.name)
     }
 
     // The number of a name, or nothing where it is not in the index.
@@ -52,12 +50,12 @@ impl NameIndex {
     {
         match self.walk(name) {
             End::Held { node } => Some(node),
-            End::Empty => None,
-            End::Free { .. } => None,
+            _ => None,
         }
     }
 
     // Adds a name at the end; false where it is there already or there is no room.
+    #[tactic(auto, using(crate::proofs::Counts::counted, crate::proofs::Growth::grown_first, crate::proofs::Growth::grown_hung))]
     pub fn add(&mut self, name: Name) -> bool
         ensures after { Added (room_of self.old) (names_of self.old) name (names_of self.new) result }
         ensures kept { room_of self.new ≡ room_of self.old }

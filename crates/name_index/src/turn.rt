@@ -9,13 +9,11 @@ use events::Name;
 pub(crate) fn turn(name: Name, depth: u32) -> bool
     ensures answer { result ≡ turn_of name depth }
 {
-    if depth < 28 {
-        return (name.number >> depth) % 2 == 1;
+    match depth {
+        0..28 => (name.number >> depth) % 2 == 1,
+        28..44 => (name.author >> (depth - 28)) % 2 == 1,
+        _ => false,
     }
-    if depth < 44 {
-        return (name.author >> (depth - 28)) % 2 == 1;
-    }
-    false
 }
 
 impl Node {
@@ -42,16 +40,15 @@ impl Node {
         ensures answer { result ≡ linked self.now bit to }
     {
         if bit {
-            return Node {
-                name: self.name,
-                zero: self.zero,
+            Node {
                 one: Some(to),
-            };
-        }
-        Node {
-            name: self.name,
-            zero: Some(to),
-            one: self.one,
+                ..*self
+            }
+        } else {
+            Node {
+                zero: Some(to),
+                ..*self
+            }
         }
     }
 }
