@@ -1,11 +1,11 @@
 -- One step up: the parent of a subtree, and on which side of it the subtree stands.
-use Rattle.std.proofs.Common.{◌≡◌, ℕ, ◌+◌, ◌-◌, ◌<◌, ◌≤◌, true, false, ◌⊎◌, List, ◌∷◌, ◌++◌, length, get_or, Some, None, Option, sym, refl, ap, ◌∙◌, subst, inl, inr, arith, eq-eqb, eqb-true}
+use Rattle.std.proofs.Common.{eqb, ◌≡◌, ℕ, ◌+◌, ◌-◌, ◌<◌, ◌≤◌, true, false, ◌⊎◌, List, ◌∷◌, ◌++◌, length, get_or, Some, None, Option, sym, refl, ap, ◌∙◌, subst, inl, inr, arith, eq-eqb, eqb-true}
 use Rattle.std.specs.List.{slice_get}
 use Rattle.indexes.specs.Laws.{Away, Apart}
 use Rattle.indexes.specs.declared.entry.Entry.{Entry}
 use Rattle.avl_tree.specs.declared.node.Node.{Node}
 use Rattle.avl_tree.specs.Climb.{Found, Climbs}
-use Rattle.avl_tree.specs.Links.{is_link}
+use Rattle.std.specs.Option.{option_eq}
 use Rattle.avl_tree.specs.Nodes.{cell, Holds, Held}
 use Rattle.avl_tree.specs.Tree.{Tree, leaf, node, entries, numbers, size, top}
 use Rattle.avl_tree.proofs.Cells.{nth_within, read_is}
@@ -91,10 +91,10 @@ in_both (node u k x v) j i (node y m z w) a p q =
     let e : m ≡ k = cc in
     ne e
 
-link_at : (link : Option ℕ) (i : ℕ) → link ≡ Some i → is_link link i ≡ true
-link_at link i is = subst (λ k. is_link k i ≡ true) (sym is) (eq-eqb i i refl)
+link_at : (link : Option ℕ) (i : ℕ) → link ≡ Some i → option_eq eqb link (Some i) ≡ true
+link_at link i is = subst (λ k. option_eq eqb k (Some i) ≡ true) (sym is) (eq-eqb i i refl)
 
-at_link : (link : Option ℕ) (i : ℕ) → is_link link i ≡ true → link ≡ Some i
+at_link : (link : Option ℕ) (i : ℕ) → option_eq eqb link (Some i) ≡ true → link ≡ Some i
 at_link None i is = let z : ◌≡◌ {A = ℕ} 0 1 = cc in absurd (omega arith)
 at_link (Some k) i is = ap Some (eqb-true k i is)
 
@@ -155,7 +155,7 @@ module _ (ns : List Node) (i : ℕ) (n : Node) (read : n ≡ get_or ns i n) wher
         let a = parent_of t s o j c is in
         record { holds = c.holds; found = a.0.found; at = ap Some a.1; apart = c.apart; small = c.small }
 
-    pub from_right : (t s : Tree) (o : ℕ) → (c : Climbs ns i t s o) → is_link m.right i ≡ true → o ≡ (parent_of t s o j c is).0.offset + size (parent_of t s o j c is).0.lower + 1
+    pub from_right : (t s : Tree) (o : ℕ) → (c : Climbs ns i t s o) → option_eq eqb m.right (Some i) ≡ true → o ≡ (parent_of t s o j c is).0.offset + size (parent_of t s o j c is).0.lower + 1
     from_right t s o c test =
         let a = (parent_of t s o j c is).0 in
         let r : top a.upper ≡ Some i = sym (ap (λ (d : Node). d.right) (parent_cell t s o c)) ∙ at_link m.right i test in
@@ -164,7 +164,7 @@ module _ (ns : List Node) (i : ℕ) (n : Node) (read : n ≡ get_or ns i n) wher
           | inr z ↦ z.1
         ]
 
-    pub from_left : (t s : Tree) (o : ℕ) → (c : Climbs ns i t s o) → is_link m.right i ≡ false → o ≡ (parent_of t s o j c is).0.offset
+    pub from_left : (t s : Tree) (o : ℕ) → (c : Climbs ns i t s o) → option_eq eqb m.right (Some i) ≡ false → o ≡ (parent_of t s o j c is).0.offset
     from_left t s o c test =
         let a = (parent_of t s o j c is).0 in
         elim a.side [

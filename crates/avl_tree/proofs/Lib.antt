@@ -6,6 +6,7 @@ pub mod Weighs
 pub mod Turns
 pub mod Keeps
 pub mod Raises
+pub mod Sided
 pub mod Puts
 pub mod Sprouts
 pub mod Sprouted

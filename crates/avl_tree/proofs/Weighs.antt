@@ -1,12 +1,33 @@
 -- The node at a link, read.
-use Rattle.std.proofs.Common.{◌≡◌, ℕ, ◌<◌, ◌≤◌, List, get_or, Some, None, Option, sym, refl, ap, ◌∙◌, subst, arith}
+use Rattle.std.proofs.Common.{◌≡◌, ℕ, zero, suc, ◌<◌, ◌≤◌, List, [], ◌∷◌, get_or, Some, None, Option, sym, refl, ap, ◌∙◌, subst, arith}
 use Rattle.indexes.specs.Laws.{Apart}
 use Rattle.std.specs.List.{slice_get}
 use Rattle.indexes.specs.declared.entry.Entry.{Entry}
+use Rattle.indexes.specs.declared.entry.Effect.TheVariants.{Present}
+use Rattle.indexes.specs.declared.entry.Attachment.TheVariants.{Root}
 use Rattle.avl_tree.specs.declared.node.Node.{Node}
 use Rattle.avl_tree.specs.Nodes.{cell, Holds, Held, Sides}
 use Rattle.avl_tree.specs.Tree.{Tree, leaf, node, numbers, size, weight}
 use Rattle.avl_tree.proofs.Cells.{read_is}
+
+-- the node that a read of a slice gives; nothing is read past the end
+abbrev pub node_at : List Node → ℕ → Node
+node_at ns i =
+    get_or ns i record {
+      entry = record { character = 0; prepared = 0; effect = Present; attachment = Root };
+      left = None;
+      right = None;
+      parent = None;
+      weight = record { height = 0; size = 0; prepared = 0; present = 0 };
+    }
+
+again : {X : Type 0} (xs : List X) (i : ℕ) (x : X) → get_or xs i x ≡ get_or xs i (get_or xs i x)
+again [] i x = refl
+again (y ∷ ys) zero x = refl
+again (y ∷ ys) (suc i) x = again ys i x
+
+pub read_at : (ns : List Node) (i : ℕ) → node_at ns i ≡ get_or ns i (node_at ns i)
+read_at ns i = again ns i _
 
 -- a tree at the link of a node has that node for its root, and the node is its cell
 pub record Rooted (ns : List Node) (t : Tree) (i : ℕ) (n : Node) : Type 0 where

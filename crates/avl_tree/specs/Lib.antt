@@ -3,6 +3,5 @@ pub mod Turns
 pub mod Changes
 pub mod Nodes
 pub mod Climb
-pub mod Links
 pub mod Builds
 pub mod Shape

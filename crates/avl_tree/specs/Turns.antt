@@ -1,11 +1,15 @@
 -- How a tree is changed: rotations, a put and a revision, over plain trees.
 --   turn_right, turn_left     a child comes up
 --   raise_left, raise_right   one or two rotations, where that side is too high
+--   at_side                   what is at a side, of what is near and what is far
+--   turned, raised            the same by the side whose child comes up
 --   balanced                  a node over two sides whose heights differ by at most two
 --   put                       a new node at a place
 --   revised                   the entry at a place changed
 use Rattle.std.specs.Prelude.{ℕ, ◌+◌, ◌-◌, cond, ◌==◌, nat_le, nat_lt}
 use Rattle.indexes.specs.declared.entry.Entry.{Entry}
+use Rattle.avl_tree.specs.declared.side.Side.{Side}
+use Rattle.avl_tree.specs.declared.side.Side.TheVariants.{Left, Right}
 use Rattle.avl_tree.specs.Tree.{Tree, leaf, node, height, size}
 
 -- the left child comes up
@@ -27,6 +31,24 @@ abbrev pub raise_right : Tree → ℕ → Entry → Tree → Tree
 raise_right l j e leaf = node l j e leaf
 raise_right l j e (node b k y c) =
     turn_left l j e (cond (nat_lt (height c) (height b)) (turn_right b k y c) (node b k y c))
+
+abbrev pub opposite : Side → Side
+opposite Left = Right
+opposite Right = Left
+
+-- the left one of what is near and what is far; the right one of what is far and what is near
+abbrev pub at_side : {X : Type 0} → Side → X → X → X
+at_side Left x y = x
+at_side Right x y = y
+
+-- the near child comes up
+abbrev pub turned : Side → Tree → ℕ → Entry → Tree → Tree
+turned Left = turn_right
+turned Right = turn_left
+
+abbrev pub raised : Side → Tree → ℕ → Entry → Tree → Tree
+raised Left = raise_left
+raised Right = raise_right
 
 abbrev pub balanced : Tree → ℕ → Entry → Tree → Tree
 balanced l j e r =

@@ -1,16 +1,15 @@
 //! A tree over a run of nodes, as even as can be.
-ghost use Rattle.std.specs.Prelude.{◌≡◌, ◌+◌, ◌≤◌, vec_len, vec_capacity};
+ghost use Rattle.std.specs.Prelude.{◌+◌, ◌≤◌, length};
 ghost use Rattle.avl_tree.specs.Builds.{Builds};
 
 use crate::node::Node;
 use crate::tie::tie;
 
 /// Joins the `count` nodes from `from` on in their order, and answers the root.
-pub fn build(nodes: &mut Vec<Node>, from: usize, count: usize) -> Option<u16>
-    requires within { from + count ≤ vec_len nodes.old }
-    requires small { vec_len nodes.old ≤ 65536 }
-    ensures after { Builds nodes.old.items nodes.new.items from count result }
-    ensures kept { vec_capacity nodes.new ≡ vec_capacity nodes.old }
+pub fn build(nodes: &mut [Node], from: usize, count: usize) -> Option<u16>
+    requires within { from + count ≤ length nodes.old }
+    requires small { length nodes.old ≤ 65536 }
+    ensures { Builds nodes.old nodes.new from count result }
 {
     if count == 0 {
         return None;

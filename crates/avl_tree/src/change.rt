@@ -1,5 +1,5 @@
 //! A changed entry at a place of the tree.
-ghost use Rattle.std.specs.Prelude.{◌≡◌, vec_capacity};
+ghost use Rattle.std.specs.Prelude.{◌≡◌};
 ghost use Rattle.avl_tree.specs.Changes.{applied};
 ghost use Rattle.avl_tree.specs.Nodes.{Stood, Revises};
 ghost use Rattle.avl_tree.specs.Tree.{Tree};
@@ -29,27 +29,21 @@ impl Change {
 }
 
 /// Changes the entry at a place of the subtree at a link; nothing beyond its size.
-pub fn revise_below(nodes: &mut Vec<Node>, link: Option<u16>, place: usize, change: Change)
-    requires { (t : Tree) × Stood nodes.old.items link t }
-    ensures after { Revises (applied change) nodes.old.items nodes.new.items link place }
-    ensures kept { vec_capacity nodes.new ≡ vec_capacity nodes.old }
+pub fn revise_below(nodes: &mut [Node], link: Option<u16>, place: usize, change: Change)
+    requires { (t : Tree) × Stood nodes.old link t }
+    ensures { Revises (applied change) nodes.old nodes.new link place }
 {
-    match link {
-        None => {}
-        Some(j) => {
-            let node = nodes[j as usize];
-            let before = weight_of(nodes, node.left).size as usize;
-            if place < before {
-                revise_below(nodes, node.left, place, change);
-                tie(nodes, node.left, j, node.right);
-            } else if place == before {
-                let entry = change.apply(node.entry);
-                nodes[j as usize] = Node { entry, ..node };
-                tie(nodes, node.left, j, node.right);
-            } else {
-                revise_below(nodes, node.right, place - before - 1, change);
-                tie(nodes, node.left, j, node.right);
-            }
-        }
+    let Some(j) = link else {
+        return;
+    };
+    let node = nodes[j as usize];
+    let before = weight_of(nodes, node.left).size as usize;
+    if place < before {
+        revise_below(nodes, node.left, place, change);
+    } else if place == before {
+        nodes[j as usize].entry = change.apply(node.entry);
+    } else {
+        revise_below(nodes, node.right, place - before - 1, change);
     }
+    tie(nodes, node.left, j, node.right);
 }

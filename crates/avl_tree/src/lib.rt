@@ -7,6 +7,7 @@ pub mod climb;
 pub mod find;
 pub mod node;
 pub mod put;
+pub mod side;
 pub mod tie;
 pub mod turn;
 pub mod weigh;

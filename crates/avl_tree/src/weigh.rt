@@ -15,9 +15,9 @@ pub const EMPTY: Weight = Weight {
 };
 
 /// The weight of the subtree at a link.
-pub fn weight_of(nodes: &Vec<Node>, link: Option<u16>) -> Weight
-    requires { Stands nodes.now.items link }
-    ensures { (t : Tree) → Held nodes.now.items link t → result ≡ weight t }
+pub fn weight_of(nodes: &[Node], link: Option<u16>) -> Weight
+    requires { Stands nodes.now link }
+    ensures { (t : Tree) → Held nodes.now link t → result ≡ weight t }
 {
     match link {
         None => EMPTY,
@@ -32,12 +32,10 @@ pub fn join(a: Weight, entry: Entry, b: Weight) -> Weight
     requires small { a.size + b.size < 65536 }
     ensures { result ≡ joined a entry b }
 {
-    let prepared = if entry.prepared_here() { 1 } else { 0 };
-    let present = if entry.is_present() { 1 } else { 0 };
     Weight {
         height: a.height.max(b.height) + 1,
         size: a.size + b.size + 1,
-        prepared: a.prepared + b.prepared + prepared,
-        present: a.present + b.present + present,
+        prepared: a.prepared + b.prepared + u32::from(entry.prepared_here()),
+        present: a.present + b.present + u32::from(entry.is_present()),
     }
 }

@@ -1,4 +1,4 @@
-use Rattle.std.proofs.Common.{◌≡◌, ◌-◌, ◌<◌, length, set, vec_items, sym, refl, ap, ◌∙◌, subst, arith}
+use Rattle.std.proofs.Common.{◌≡◌, ◌-◌, set, sym, refl, ap, ◌∙◌, subst, arith}
 use Rattle.indexes.specs.declared.entry.Entry.{Entry}
 use Rattle.avl_tree.specs.Changes.{applied}
 use Rattle.avl_tree.specs.declared.change.Change.{Change}
@@ -10,87 +10,68 @@ use Rattle.avl_tree.proofs.Cells.{set_altered}
 use Rattle.avl_tree.proofs.Revises.{root, retitled, stood_left, stood_right, ready_revised_left, ready_revised_right, ready_here, revised_left, revised_right, revised_here}
 use Rattle.avl_tree.proofs.Ties.{link_within}
 use Rattle.avl_tree.proofs.Weighs.{lefts, falls_left, falls_right}
+use Rattle.avl_tree.proofs.Weighs.{node_at, read_at}
 use Rattle.avl_tree.proofs.change.+revise_below.Goals as goal
+use Rattle.avl_tree.proofs.change.+revise_below.Goals.{then-place-before, else-place-before+then-place-before-2, else-place-before+else-place-before-2}
 
 keeps : (d : Change) (e : Entry) → (applied d e).character ≡ e.character
 keeps (Prepared k) e = refl
 keeps (Effect f) e = refl
 
-pub index-node-requires : goal.index-node-requires
-index-node-requires t c =
-    let v = c.args.nodes.now in
-    omega (arith, link_within (vec_items v) c.args.link c.requires.0 c.requires.1.held c.in-Some.j c.in-Some.is, v.ok.0)
-
 pub weight_of-before-requires : goal.weight_of-before-requires
-weight_of-before-requires t c = let o = root (applied c.args.change) (vec_items c.args.nodes.now) c.args.link c.in-Some.j c.index-node.result.now c.in-Some.is c.index-node.ensures c.requires.0 c.requires.1 in (o.lower, lefts o)
+weight_of-before-requires t c = let o = root (applied c.args.change) c.args.nodes.now c.args.link c.in-Some.j (node_at c.args.nodes.now c.in-Some.j) c.in-Some.is (read_at c.args.nodes.now c.in-Some.j) c.requires.0 c.requires.1 in (o.lower, lefts o)
 
 pub revise_below-requires : goal.revise_below-requires
 revise_below-requires t c =
-    let o = root (applied c.args.change) (vec_items c.args.nodes.now) c.args.link c.in-Some.j c.index-node.result.now c.in-Some.is c.index-node.ensures c.requires.0 c.requires.1 in
-    let fall = falls_left (vec_items c.args.nodes.now) c.args.link c.requires.0 c.in-Some.j c.index-node.result.now c.requires.1.held o in
-    (omega (arith, fall, c.decreases), (o.lower, stood_left (applied c.args.change) (vec_items c.args.nodes.now) c.args.link c.in-Some.j c.index-node.result.now c.in-Some.is c.index-node.ensures c.requires.0 c.requires.1))
-
-pub tie-requires : goal.tie-requires
-tie-requires t c =
-    ready_revised_left (applied c.args.change) (vec_items c.args.nodes.now) c.args.link c.in-Some.j c.index-node.result.now c.in-Some.is c.index-node.ensures (vec_items c.revise_below.new.nodes) c.args.place c.revise_below.ensures.after c.requires.0 c.requires.1
-
-pub index_mut-requires : goal.index_mut-requires
-index_mut-requires t c =
-    let v = c.args.nodes.now in
-    omega (arith, link_within (vec_items v) c.args.link c.requires.0 c.requires.1.held c.in-Some.j c.in-Some.is, v.ok.0)
-
-pub tie-requires-then-place-before-2 : goal.tie-requires-then-place-before-2
-tie-requires-then-place-before-2 t c =
-    let v = c.args.nodes.now in
-    let ns = vec_items v in
-    let n = c.index-node.result.now in
-    let within : c.in-Some.j < length ns = link_within ns c.args.link c.requires.0 c.requires.1.held c.in-Some.j c.in-Some.is in
-    let put = ap (λ (e : Entry). set ns c.in-Some.j (record { entry = e; left = n.left; right = n.right; parent = n.parent; weight = n.weight })) c.apply-entry.ensures ∙ set_altered (retitled (applied c.args.change)) ns c.in-Some.j n within c.index-node.ensures in
-    subst (λ ms. Ready ms n.left c.in-Some.j n.right) (sym put) (ready_here (applied c.args.change) (vec_items c.args.nodes.now) c.args.link c.in-Some.j c.index-node.result.now c.in-Some.is c.index-node.ensures c.requires.0 c.requires.1)
+    let o = root (applied c.args.change) c.args.nodes.now c.args.link c.in-Some.j (node_at c.args.nodes.now c.in-Some.j) c.in-Some.is (read_at c.args.nodes.now c.in-Some.j) c.requires.0 c.requires.1 in
+    let fall = falls_left c.args.nodes.now c.args.link c.requires.0 c.in-Some.j (node_at c.args.nodes.now c.in-Some.j) c.requires.1.held o in
+    (omega (arith, fall, c.decreases), (o.lower, stood_left (applied c.args.change) c.args.nodes.now c.args.link c.in-Some.j (node_at c.args.nodes.now c.in-Some.j) c.in-Some.is (read_at c.args.nodes.now c.in-Some.j) c.requires.0 c.requires.1))
 
 pub revise_below-requires-else-place-before-2 : goal.revise_below-requires-else-place-before-2
 revise_below-requires-else-place-before-2 t c =
-    let o = root (applied c.args.change) (vec_items c.args.nodes.now) c.args.link c.in-Some.j c.index-node.result.now c.in-Some.is c.index-node.ensures c.requires.0 c.requires.1 in
-    let fall = falls_right (vec_items c.args.nodes.now) c.args.link c.requires.0 c.in-Some.j c.index-node.result.now c.requires.1.held o in
-    (omega (arith, fall, c.decreases), (o.upper, stood_right (applied c.args.change) (vec_items c.args.nodes.now) c.args.link c.in-Some.j c.index-node.result.now c.in-Some.is c.index-node.ensures c.requires.0 c.requires.1))
+    let o = root (applied c.args.change) c.args.nodes.now c.args.link c.in-Some.j (node_at c.args.nodes.now c.in-Some.j) c.in-Some.is (read_at c.args.nodes.now c.in-Some.j) c.requires.0 c.requires.1 in
+    let fall = falls_right c.args.nodes.now c.args.link c.requires.0 c.in-Some.j (node_at c.args.nodes.now c.in-Some.j) c.requires.1.held o in
+    (omega (arith, fall, c.decreases), (o.upper, stood_right (applied c.args.change) c.args.nodes.now c.args.link c.in-Some.j (node_at c.args.nodes.now c.in-Some.j) c.in-Some.is (read_at c.args.nodes.now c.in-Some.j) c.requires.0 c.requires.1))
 
-pub tie-requires-else-place-before-2 : goal.tie-requires-else-place-before-2
-tie-requires-else-place-before-2 t c =
-    ready_revised_right (applied c.args.change) (vec_items c.args.nodes.now) c.args.link c.in-Some.j c.index-node.result.now c.in-Some.is c.index-node.ensures (vec_items c.revise_below-else-place-before-2.new.nodes) c.args.place (c.args.place - c.weight_of-before.result.size - 1) c.revise_below-else-place-before-2.ensures.after c.requires.0 c.requires.1
-
-pub returns-then-place-before : goal.returns-then-place-before
-returns-then-place-before t c =
-    let n = c.index-node.result.now in
-    let test : (l : Tree) → Held (vec_items c.args.nodes.now) n.left l → c.args.place < size l = λ l h. omega (arith, ap (λ (w : Weight). w.size) (c.weight_of-before.ensures l h), c.if-place-before.true) in
-    record {
-      after = revised_left (applied c.args.change) (vec_items c.args.nodes.now) c.args.link c.in-Some.j c.index-node.result.now c.in-Some.is c.index-node.ensures (vec_items c.revise_below.new.nodes) c.args.place (vec_items c.tie.new.nodes) c.tie.result test c.revise_below.ensures.after c.tie.ensures.after;
-      kept = c.tie.ensures.kept ∙ c.revise_below.ensures.kept;
-    }
-
-pub returns-then-place-before-2 : goal.returns-then-place-before-2
-returns-then-place-before-2 t c =
-    let v = c.args.nodes.now in
-    let ns = vec_items v in
-    let n = c.index-node.result.now in
+pub tie-requires : goal.tie-requires
+tie-requires t c =
+    let ns = c.args.nodes.now in
     let j = c.in-Some.j in
-    let within : j < length ns = link_within ns c.args.link c.requires.0 c.requires.1.held j c.in-Some.is in
-    let put = ap (λ (e : Entry). set ns j (record { entry = e; left = n.left; right = n.right; parent = n.parent; weight = n.weight })) c.apply-entry.ensures ∙ set_altered (retitled (applied c.args.change)) ns j n within c.index-node.ensures in
-    let test : (l : Tree) → Held ns n.left l → c.args.place ≡ size l = λ l h. omega (arith, ap (λ (w : Weight). w.size) (c.weight_of-before.ensures l h), c.if-place-before-2.true) in
-    let ks = vec_items c.tie-then-place-before-2.new.nodes in
-    let i = c.tie-then-place-before-2.result in
-    record {
-      after = revised_here (applied c.args.change) (vec_items c.args.nodes.now) c.args.link c.in-Some.j c.index-node.result.now c.in-Some.is c.index-node.ensures (keeps c.args.change) ks i c.args.place test (subst (λ ms. Makes node ms ks n.left j n.right i) put c.tie-then-place-before-2.ensures.after);
-      kept = c.tie-then-place-before-2.ensures.kept;
-    }
+    let n = node_at ns j in
+    let f = applied c.args.change in
+    let u = c.requires.0 in
+    let s = c.requires.1 in
+    let read = read_at ns j in
+    elim c.if-place-before.branch [
+      | then-place-before w ↦
+          subst (λ ms. Ready ms n.left j n.right) (sym w.nodes-is) (ready_revised_left f ns c.args.link j n c.in-Some.is read w.revise_below.new.nodes c.args.place w.revise_below.ensures u s)
+      | else-place-before+then-place-before-2 w ↦
+          let within = link_within ns c.args.link u s.held j c.in-Some.is in
+          let put = w.nodes-is ∙ ap (λ (e : Entry). set ns j (record { entry = e; left = n.left; right = n.right; parent = n.parent; weight = n.weight })) w.apply.ensures ∙ set_altered (retitled f) ns j n within read in
+          subst (λ ms. Ready ms n.left j n.right) (sym put) (ready_here f ns c.args.link j n c.in-Some.is read u s)
+      | else-place-before+else-place-before-2 w ↦
+          subst (λ ms. Ready ms n.left j n.right) (sym w.nodes-is) (ready_revised_right f ns c.args.link j n c.in-Some.is read w.revise_below-else-place-before-2.new.nodes c.args.place (c.args.place - c.weight_of-before.result.size - 1) w.revise_below-else-place-before-2.ensures u s)
+    ]
 
-pub returns-else-place-before-2 : goal.returns-else-place-before-2
-returns-else-place-before-2 t c =
-    let n = c.index-node.result.now in
+pub returns : goal.returns
+returns t c =
+    let ns = c.args.nodes.now in
+    let j = c.in-Some.j in
+    let n = node_at ns j in
+    let f = applied c.args.change in
+    let read = read_at ns j in
     let place = c.args.place in
     let q = place - c.weight_of-before.result.size - 1 in
-    let test : (l : Tree) → Held (vec_items c.args.nodes.now) n.left l → (size l < place) × (q ≡ place - size l - 1) =
-    λ l h. let size_is = ap (λ (w : Weight). w.size) (c.weight_of-before.ensures l h) in (omega (arith, size_is, c.if-place-before.false, c.if-place-before-2.false), ap (λ m. place - m - 1) size_is) in
-    record {
-      after = revised_right (applied c.args.change) (vec_items c.args.nodes.now) c.args.link c.in-Some.j c.index-node.result.now c.in-Some.is c.index-node.ensures (vec_items c.revise_below-else-place-before-2.new.nodes) place (vec_items c.tie-else-place-before-2.new.nodes) c.tie-else-place-before-2.result q test c.revise_below-else-place-before-2.ensures.after c.tie-else-place-before-2.ensures.after;
-      kept = c.tie-else-place-before-2.ensures.kept ∙ c.revise_below-else-place-before-2.ensures.kept;
-    }
+    let ks = c.tie.new.nodes in
+    let i = c.tie.result in
+    let sized : (l : Tree) → Held ns n.left l → c.weight_of-before.result.size ≡ size l = λ l h. ap (λ (w : Weight). w.size) (c.weight_of-before.ensures l h) in
+    elim c.if-place-before.branch [
+      | then-place-before w ↦
+          revised_left f ns c.args.link j n c.in-Some.is read w.revise_below.new.nodes place ks i (λ l h. omega (arith, sized l h, w.if-place-before.true)) w.revise_below.ensures (subst (λ ms. Makes node ms ks n.left j n.right i) w.nodes-is c.tie.ensures)
+      | else-place-before+then-place-before-2 w ↦
+          let within = link_within ns c.args.link c.requires.0 c.requires.1.held j c.in-Some.is in
+          let put = w.nodes-is ∙ ap (λ (e : Entry). set ns j (record { entry = e; left = n.left; right = n.right; parent = n.parent; weight = n.weight })) w.apply.ensures ∙ set_altered (retitled f) ns j n within read in
+          revised_here f ns c.args.link j n c.in-Some.is read (keeps c.args.change) ks i place (λ l h. omega (arith, sized l h, w.if-place-before-2.true)) (subst (λ ms. Makes node ms ks n.left j n.right i) put c.tie.ensures)
+      | else-place-before+else-place-before-2 w ↦
+          revised_right f ns c.args.link j n c.in-Some.is read w.revise_below-else-place-before-2.new.nodes place ks i q (λ l h. (omega (arith, sized l h, w.if-place-before.false, w.if-place-before-2.false), ap (λ m. place - m - 1) (sized l h))) w.revise_below-else-place-before-2.ensures (subst (λ ms. Makes node ms ks n.left j n.right i) w.nodes-is c.tie.ensures)
+    ]

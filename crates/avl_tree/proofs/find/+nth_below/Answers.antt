@@ -1,4 +1,4 @@
-use Rattle.std.proofs.Common.{◌+◌, ◌-◌, ◌∷◌, length, Some, vec_items, sym, ap, ◌∙◌, arith}
+use Rattle.std.proofs.Common.{◌+◌, ◌-◌, ◌∷◌, length, Some, sym, ap, ◌∙◌, arith}
 use Rattle.indexes.specs.Entries.{is_prepared}
 use Rattle.indexes.specs.Questions.{bit, find, shifted}
 use Rattle.indexes.proofs.Finds.{find_left}
@@ -7,47 +7,42 @@ use Rattle.avl_tree.specs.declared.node.Weight.{Weight}
 use Rattle.avl_tree.specs.Tree.{entries, size}
 use Rattle.avl_tree.proofs.Sizes.{size_entries, prepared_entries}
 use Rattle.avl_tree.proofs.Steps.{find_behind, find_mid, shifted_behind}
-use Rattle.avl_tree.proofs.Ties.{link_within}
 use Rattle.avl_tree.proofs.Weighs.{rooted, lefts, rights, falls_left, falls_right}
+use Rattle.avl_tree.proofs.Weighs.{node_at, read_at}
 use Rattle.avl_tree.proofs.find.+nth_below.Goals as goal
 
-pub index-requires : goal.index-requires
-index-requires t c =
-    let v = c.args.nodes.now in
-    omega (arith, link_within (vec_items v) c.args.link c.requires.0 c.requires.1 c.in-Some.j c.in-Some.is, v.ok.0)
-
 pub weight_of-left-requires : goal.weight_of-left-requires
-weight_of-left-requires t c = let o = rooted (vec_items c.args.nodes.now) c.args.link c.requires.0 c.requires.1 c.in-Some.j c.index.result.now c.in-Some.is c.index.ensures in (o.lower, lefts o)
+weight_of-left-requires t c = let o = rooted c.args.nodes.now c.args.link c.requires.0 c.requires.1 c.in_ok-node.field-0 (node_at c.args.nodes.now c.in_ok-node.field-0) c.in_ok-node.was (read_at c.args.nodes.now c.in_ok-node.field-0) in (o.lower, lefts o)
 
 pub nth_below-requires : goal.nth_below-requires
 nth_below-requires t c =
-    let o = rooted (vec_items c.args.nodes.now) c.args.link c.requires.0 c.requires.1 c.in-Some.j c.index.result.now c.in-Some.is c.index.ensures in
-    let fall = falls_left (vec_items c.args.nodes.now) c.args.link c.requires.0 c.in-Some.j c.index.result.now c.requires.1 o in
+    let o = rooted c.args.nodes.now c.args.link c.requires.0 c.requires.1 c.in_ok-node.field-0 (node_at c.args.nodes.now c.in_ok-node.field-0) c.in_ok-node.was (read_at c.args.nodes.now c.in_ok-node.field-0) in
+    let fall = falls_left c.args.nodes.now c.args.link c.requires.0 c.in_ok-node.field-0 (node_at c.args.nodes.now c.in_ok-node.field-0) c.requires.1 o in
     (omega (arith, fall, c.decreases), (o.lower, lefts o, omega (arith, c.requires.2, ap size o.is)))
 
 pub nth_below-requires-then-not-prepared_here : goal.nth_below-requires-then-not-prepared_here
 nth_below-requires-then-not-prepared_here t c =
-    let o = rooted (vec_items c.args.nodes.now) c.args.link c.requires.0 c.requires.1 c.in-Some.j c.index.result.now c.in-Some.is c.index.ensures in
-    let fall = falls_right (vec_items c.args.nodes.now) c.args.link c.requires.0 c.in-Some.j c.index.result.now c.requires.1 o in
+    let o = rooted c.args.nodes.now c.args.link c.requires.0 c.requires.1 c.in_ok-node.field-0 (node_at c.args.nodes.now c.in_ok-node.field-0) c.in_ok-node.was (read_at c.args.nodes.now c.in_ok-node.field-0) in
+    let fall = falls_right c.args.nodes.now c.args.link c.requires.0 c.in_ok-node.field-0 (node_at c.args.nodes.now c.in_ok-node.field-0) c.requires.1 o in
     let n = ap (λ (w : Weight). w.size) (c.weight_of-left.ensures o.lower (lefts o)) in
     (omega (arith, fall, c.decreases), (o.upper, rights o, omega (arith, c.requires.2, ap size o.is, n)))
 
 pub nth_below-requires-else-n-before-2 : goal.nth_below-requires-else-n-before-2
 nth_below-requires-else-n-before-2 t c =
-    let o = rooted (vec_items c.args.nodes.now) c.args.link c.requires.0 c.requires.1 c.in-Some.j c.index.result.now c.in-Some.is c.index.ensures in
-    let fall = falls_right (vec_items c.args.nodes.now) c.args.link c.requires.0 c.in-Some.j c.index.result.now c.requires.1 o in
+    let o = rooted c.args.nodes.now c.args.link c.requires.0 c.requires.1 c.in_ok-node.field-0 (node_at c.args.nodes.now c.in_ok-node.field-0) c.in_ok-node.was (read_at c.args.nodes.now c.in_ok-node.field-0) in
+    let fall = falls_right c.args.nodes.now c.args.link c.requires.0 c.in_ok-node.field-0 (node_at c.args.nodes.now c.in_ok-node.field-0) c.requires.1 o in
     let n = ap (λ (w : Weight). w.size) (c.weight_of-left.ensures o.lower (lefts o)) in
     (omega (arith, fall, c.decreases), (o.upper, rights o, omega (arith, c.requires.2, ap size o.is, n)))
 
 pub returns-then-n-before : goal.returns-then-n-before
 returns-then-n-before t c u h =
-    let o = rooted (vec_items c.args.nodes.now) c.args.link u h c.in-Some.j c.index.result.now c.in-Some.is c.index.ensures in
+    let o = rooted c.args.nodes.now c.args.link u h c.in_ok-node.field-0 (node_at c.args.nodes.now c.in_ok-node.field-0) c.in_ok-node.was (read_at c.args.nodes.now c.in_ok-node.field-0) in
     let n = ap (λ (w : Weight). w.prepared) (c.weight_of-left.ensures o.lower (lefts o)) in
     c.nth_below.ensures o.lower (lefts o) ∙ sym (ap (shifted c.args.offset) (ap (λ v. find is_prepared (entries v) c.args.n) o.is ∙ find_left is_prepared (entries o.lower) (o.entry ∷ entries o.upper) c.args.n (omega (arith, n, prepared_entries o.lower, c.if-n-before.true))))
 
 pub returns-then-not-prepared_here : goal.returns-then-not-prepared_here
 returns-then-not-prepared_here t c u h =
-    let o = rooted (vec_items c.args.nodes.now) c.args.link u h c.in-Some.j c.index.result.now c.in-Some.is c.index.ensures in
+    let o = rooted c.args.nodes.now c.args.link u h c.in_ok-node.field-0 (node_at c.args.nodes.now c.in_ok-node.field-0) c.in_ok-node.was (read_at c.args.nodes.now c.in_ok-node.field-0) in
     let n = ap (λ (w : Weight). w.size) (c.weight_of-left.ensures o.lower (lefts o)) in
     let m = ap (λ (w : Weight). w.prepared) (c.weight_of-left.ensures o.lower (lefts o)) in
     let xs = entries o.lower in
@@ -60,7 +55,7 @@ returns-then-not-prepared_here t c u h =
 
 pub returns-then-n-before-2 : goal.returns-then-n-before-2
 returns-then-n-before-2 t c u h =
-    let o = rooted (vec_items c.args.nodes.now) c.args.link u h c.in-Some.j c.index.result.now c.in-Some.is c.index.ensures in
+    let o = rooted c.args.nodes.now c.args.link u h c.in_ok-node.field-0 (node_at c.args.nodes.now c.in_ok-node.field-0) c.in_ok-node.was (read_at c.args.nodes.now c.in_ok-node.field-0) in
     let n = ap (λ (w : Weight). w.size) (c.weight_of-left.ensures o.lower (lefts o)) in
     let m = ap (λ (w : Weight). w.prepared) (c.weight_of-left.ensures o.lower (lefts o)) in
     let xs = entries o.lower in
@@ -70,7 +65,7 @@ returns-then-n-before-2 t c u h =
 
 pub returns-else-n-before-2 : goal.returns-else-n-before-2
 returns-else-n-before-2 t c u h =
-    let o = rooted (vec_items c.args.nodes.now) c.args.link u h c.in-Some.j c.index.result.now c.in-Some.is c.index.ensures in
+    let o = rooted c.args.nodes.now c.args.link u h c.in_ok-node.field-0 (node_at c.args.nodes.now c.in_ok-node.field-0) c.in_ok-node.was (read_at c.args.nodes.now c.in_ok-node.field-0) in
     let n = ap (λ (w : Weight). w.size) (c.weight_of-left.ensures o.lower (lefts o)) in
     let m = ap (λ (w : Weight). w.prepared) (c.weight_of-left.ensures o.lower (lefts o)) in
     let xs = entries o.lower in

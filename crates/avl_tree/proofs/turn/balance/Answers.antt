@@ -1,4 +1,4 @@
-use Rattle.std.proofs.Common.{◌+◌, ltb, vec_items, sym, ap, ◌∙◌, arith, le-ltb, lt-ltb}
+use Rattle.std.proofs.Common.{◌+◌, ltb, sym, ap, ◌∙◌, arith, le-ltb, lt-ltb}
 use Rattle.std.proofs.lemmas.Bool.{cond-true, cond-false}
 use Rattle.avl_tree.specs.Tree.{node, height}
 use Rattle.avl_tree.specs.Turns.{raise_left, raise_right, balanced}
@@ -19,41 +19,32 @@ overflow_add-lower c =
 
 pub returns-then-upper-lower : goal.returns-then-upper-lower
 returns-then-upper-lower c =
-    let ns = vec_items c.args.nodes.now in
-    record {
-      after = makes_by raise_left balanced ns (vec_items c.raise_left.new.nodes) c.args.left c.args.j c.args.right c.raise_left.result
-          (λ l e r s.
-          let wl = ap (λ (w : Weight). w.height) (c.weight_of-lower.ensures l s.lower) in
-          let wr = ap (λ (w : Weight). w.height) (c.weight_of-upper.ensures r s.upper) in
-          sym (cond-true (ltb (height r + 1) (height l)) (raise_left l c.args.j e r) _ (lt-ltb _ _ (omega (arith, wl, wr, c.if-upper-lower.true)))))
-          c.raise_left.ensures.after;
-      kept = c.raise_left.ensures.kept;
-    }
+    let ns = c.args.nodes.now in
+    makes_by raise_left balanced ns c.raise.new.nodes c.args.left c.args.j c.args.right c.raise.result
+    (λ l e r s.
+    let wl = ap (λ (w : Weight). w.height) (c.weight_of-lower.ensures l s.lower) in
+    let wr = ap (λ (w : Weight). w.height) (c.weight_of-upper.ensures r s.upper) in
+    sym (cond-true (ltb (height r + 1) (height l)) (raise_left l c.args.j e r) _ (lt-ltb _ _ (omega (arith, wl, wr, c.if-upper-lower.true)))))
+    c.raise.ensures
 
 pub returns-then-lower-upper : goal.returns-then-lower-upper
 returns-then-lower-upper c =
-    let ns = vec_items c.args.nodes.now in
-    record {
-      after = makes_by raise_right balanced ns (vec_items c.raise_right.new.nodes) c.args.left c.args.j c.args.right c.raise_right.result
-          (λ l e r s.
-          let wl = ap (λ (w : Weight). w.height) (c.weight_of-lower.ensures l s.lower) in
-          let wr = ap (λ (w : Weight). w.height) (c.weight_of-upper.ensures r s.upper) in
-          sym (cond-false (ltb (height r + 1) (height l)) (raise_left l c.args.j e r) _ (le-ltb _ _ (omega (arith, wl, wr, c.if-upper-lower.false)))
-          ∙ cond-true (ltb (height l + 1) (height r)) (raise_right l c.args.j e r) _ (lt-ltb _ _ (omega (arith, wl, wr, c.if-lower-upper.true)))))
-          c.raise_right.ensures.after;
-      kept = c.raise_right.ensures.kept;
-    }
+    let ns = c.args.nodes.now in
+    makes_by raise_right balanced ns c.raise-then-lower-upper.new.nodes c.args.left c.args.j c.args.right c.raise-then-lower-upper.result
+    (λ l e r s.
+    let wl = ap (λ (w : Weight). w.height) (c.weight_of-lower.ensures l s.lower) in
+    let wr = ap (λ (w : Weight). w.height) (c.weight_of-upper.ensures r s.upper) in
+    sym (cond-false (ltb (height r + 1) (height l)) (raise_left l c.args.j e r) _ (le-ltb _ _ (omega (arith, wl, wr, c.if-upper-lower.false)))
+    ∙ cond-true (ltb (height l + 1) (height r)) (raise_right l c.args.j e r) _ (lt-ltb _ _ (omega (arith, wl, wr, c.if-lower-upper.true)))))
+    c.raise-then-lower-upper.ensures
 
 pub returns-else-lower-upper : goal.returns-else-lower-upper
 returns-else-lower-upper c =
-    let ns = vec_items c.args.nodes.now in
-    record {
-      after = makes_by node balanced ns (vec_items c.tie.new.nodes) c.args.left c.args.j c.args.right c.tie.result
-          (λ l e r s.
-          let wl = ap (λ (w : Weight). w.height) (c.weight_of-lower.ensures l s.lower) in
-          let wr = ap (λ (w : Weight). w.height) (c.weight_of-upper.ensures r s.upper) in
-          sym (cond-false (ltb (height r + 1) (height l)) (raise_left l c.args.j e r) _ (le-ltb _ _ (omega (arith, wl, wr, c.if-upper-lower.false)))
-          ∙ cond-false (ltb (height l + 1) (height r)) (raise_right l c.args.j e r) _ (le-ltb _ _ (omega (arith, wl, wr, c.if-lower-upper.false)))))
-          c.tie.ensures.after;
-      kept = c.tie.ensures.kept;
-    }
+    let ns = c.args.nodes.now in
+    makes_by node balanced ns c.tie.new.nodes c.args.left c.args.j c.args.right c.tie.result
+    (λ l e r s.
+    let wl = ap (λ (w : Weight). w.height) (c.weight_of-lower.ensures l s.lower) in
+    let wr = ap (λ (w : Weight). w.height) (c.weight_of-upper.ensures r s.upper) in
+    sym (cond-false (ltb (height r + 1) (height l)) (raise_left l c.args.j e r) _ (le-ltb _ _ (omega (arith, wl, wr, c.if-upper-lower.false)))
+    ∙ cond-false (ltb (height l + 1) (height r)) (raise_right l c.args.j e r) _ (le-ltb _ _ (omega (arith, wl, wr, c.if-lower-upper.false)))))
+    c.tie.ensures
