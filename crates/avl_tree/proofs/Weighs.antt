@@ -21,13 +21,13 @@ node_at ns i =
       weight = record { height = 0; size = 0; prepared = 0; present = 0 };
     }
 
-again : {X : Type 0} (xs : List X) (i : ℕ) (x : X) → get_or xs i x ≡ get_or xs i (get_or xs i x)
-again [] i x = refl
-again (y ∷ ys) zero x = refl
-again (y ∷ ys) (suc i) x = again ys i x
+pub read_again : {X : Type 0} (xs : List X) (i : ℕ) (x : X) → get_or xs i x ≡ get_or xs i (get_or xs i x)
+read_again [] i x = refl
+read_again (y ∷ ys) zero x = refl
+read_again (y ∷ ys) (suc i) x = read_again ys i x
 
 pub read_at : (ns : List Node) (i : ℕ) → node_at ns i ≡ get_or ns i (node_at ns i)
-read_at ns i = again ns i _
+read_at ns i = read_again ns i _
 
 -- a tree at the link of a node has that node for its root, and the node is its cell
 pub record Rooted (ns : List Node) (t : Tree) (i : ℕ) (n : Node) : Type 0 where

@@ -11,7 +11,6 @@ use avl_tree::change::{Change, revise_below};
 use avl_tree::node::Node;
 use avl_tree::put::put_below;
 use avl_tree::tie::adopt;
-use avl_tree::weigh::{EMPTY, join};
 use indexes::Entry;
 
 impl AvlIndex {
@@ -24,16 +23,11 @@ impl AvlIndex {
         ensures kept { self.new.room ≡ self.old.room }
     {
         let new = self.nodes.len() as u16;
-        self.nodes.push_reserved(Node {
-            entry,
-            left: None,
-            right: None,
-            parent: None,
-            weight: join(EMPTY, entry, EMPTY),
-        });
+        self.nodes.push_reserved(Node::leaf(entry));
         self.directory[entry.character as usize] = new;
-        let root = put_below(&mut self.nodes, self.root, place, new);
-        adopt(&mut self.nodes, Some(root), None);
+        let nodes = self.nodes.as_mut_slice();
+        let root = put_below(nodes, self.root, place, new);
+        adopt(nodes, Some(root), None);
         self.root = Some(root);
     }
 
@@ -43,8 +37,9 @@ impl AvlIndex {
         ensures after { avl_entries self.new ≡ at_place (applied change) (avl_entries self.old) place }
         ensures kept { self.new.room ≡ self.old.room }
     {
-        revise_below(&mut self.nodes, self.root, place, change);
-        adopt(&mut self.nodes, self.root, None);
-        place < self.nodes.len()
+        let nodes = self.nodes.as_mut_slice();
+        revise_below(nodes, self.root, place, change);
+        adopt(nodes, self.root, None);
+        place < nodes.len()
     }
 }

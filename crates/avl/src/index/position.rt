@@ -40,16 +40,14 @@ impl PositionIndex for AvlIndex {
     }
 
     fn place_of(&self, character: u16) -> Option<usize> {
+        let nodes = self.nodes.as_slice();
         let i = self.directory[character as usize];
-        if i as usize >= self.nodes.len() {
-            return None;
-        }
-        let node = self.nodes[i as usize];
+        let node = nodes.get(i as usize)?;
         if node.entry.character != character {
             return None;
         }
-        let before = weight_of(&self.nodes, node.left).size as usize;
-        Some(place_above(&self.nodes, i, before))
+        let before = weight_of(nodes, node.left).size as usize;
+        Some(place_above(nodes, i, before))
     }
 
     fn present_before(&self, place: usize) -> Option<usize> {
@@ -60,13 +58,8 @@ impl PositionIndex for AvlIndex {
     }
 
     fn put(&mut self, place: usize, entry: Entry) -> bool {
-        if place > self.nodes.len() {
-            return false;
-        }
-        if self.nodes.len() >= self.room {
-            return false;
-        }
-        if self.place_of(entry.character).is_some() {
+        let count = self.nodes.len();
+        if place > count || count >= self.room || self.place_of(entry.character).is_some() {
             return false;
         }
         self.insert(place, entry);

@@ -1,5 +1,5 @@
 //! The tree of an AVL index, built anew from its trimmed entries.
-ghost use Rattle.std.specs.Prelude.{◌≡◌, ◌<◌, ◌≤◌, length, vec_len, vec_capacity};
+ghost use Rattle.std.specs.Prelude.{◌≡◌, ◌≤◌, length, vec_capacity};
 ghost use Rattle.avl.specs.Avl.{avl_entries};
 ghost use Rattle.avl_tree.specs.Shape.{Named};
 ghost use Rattle.avl_tree.specs.Nodes.{held_entries};
@@ -12,31 +12,22 @@ use avl_tree::build::build;
 use avl_tree::find::collect_below;
 use avl_tree::node::Node;
 use avl_tree::tie::adopt;
-use avl_tree::weigh::EMPTY;
 use indexes::{Entry, trim_cells};
 
 /// Lays the entries out as nodes in their order, and enters them into the directory.
-pub fn lay_out(entries: &Vec<Entry>, nodes: &mut Vec<Node>, directory: &mut Vec<u16>)
-    requires room { vec_len entries.now ≤ vec_capacity nodes.old }
-    requires small { vec_len entries.now ≤ 65536 }
-    requires wide { vec_len directory.old ≡ 65536 }
-    requires distinct { Distinct (characters entries.now.items) }
-    ensures after { held_entries nodes.new.items ≡ entries.now.items }
-    ensures named { Named nodes.new.items directory.new.items }
-    ensures wide { vec_len directory.new ≡ 65536 }
+pub fn lay_out(entries: &[Entry], nodes: &mut Vec<Node>, directory: &mut [u16])
+    requires room { length entries.now ≤ vec_capacity nodes.old }
+    requires small { length entries.now ≤ 65536 }
+    requires wide { length directory.old ≡ 65536 }
+    requires distinct { Distinct (characters entries.now) }
+    ensures after { held_entries nodes.new.items ≡ entries.now }
+    ensures named { Named nodes.new.items directory.new }
     ensures kept { vec_capacity nodes.new ≡ vec_capacity nodes.old }
 {
     nodes.clear();
-    for i in 0..entries.len() {
-        let entry = entries[i];
+    for (i, entry) in entries.iter().enumerate() {
         directory[entry.character as usize] = i as u16;
-        nodes.push_reserved(Node {
-            entry,
-            left: None,
-            right: None,
-            parent: None,
-            weight: EMPTY,
-        });
+        nodes.push_reserved(Node::leaf(*entry));
     }
 }
 
@@ -50,7 +41,8 @@ impl AvlIndex {
         collect_below(&self.nodes, self.root, &mut self.spare);
         trim_cells(&mut self.spare);
         lay_out(&self.spare, &mut self.nodes, &mut self.directory);
-        self.root = build(&mut self.nodes, 0, self.spare.len());
-        adopt(&mut self.nodes, self.root, None);
+        let nodes = self.nodes.as_mut_slice();
+        self.root = build(nodes, 0, self.spare.len());
+        adopt(nodes, self.root, None);
     }
 }

@@ -1,6 +1,6 @@
-use Rattle.std.proofs.Common.{◌≡◌, List, ◌++◌, length, None, vec_items, vec_len, sym, refl, ap, ◌∙◌, subst, arith}
-use lib.ListN.{length-map}
-use Rattle.std.specs.List.{slice_get}
+use Rattle.std.proofs.Common.{ℕ, List, length, vec_items, sym, refl, ap, ◌∙◌, subst, arith}
+use Rattle.std.specs.Vec.{with_items}
+use Rattle.std.proofs.lemmas.List.{with_items_is}
 use Rattle.indexes.specs.Changes.{trimmed}
 use Rattle.indexes.specs.Laws.{Distinct}
 use Rattle.indexes.specs.Questions.{characters}
@@ -9,87 +9,72 @@ use Rattle.avl.specs.Avl.{avl_tree_of, avl_entries}
 use Rattle.avl_tree.specs.declared.node.Node.{Node}
 use Rattle.avl_tree.specs.Nodes.{held_entries}
 use Rattle.avl_tree.specs.Shape.{Named}
-use Rattle.avl.proofs.Facts.{held_of, facts}
-use Rattle.avl_tree.proofs.Grown.{Whole}
-use Rattle.avl_tree.proofs.Rebuilt.{whole_built, built_entries}
+use Rattle.avl.proofs.Facts.{held_at, spared, laid_length, rebuilt}
 use Rattle.avl_tree.proofs.Sizes.{size_entries}
-use Rattle.avl_tree.proofs.Ties.{link_within, entries_adopted}
+use Rattle.avl_tree.proofs.Ties.{link_within}
 use Rattle.avl.proofs.index.AvlIndex.rebuild.Goals as goal
 
 pub collect_below-requires : goal.collect_below-requires
 collect_below-requires c =
     let s = c.args.self.now in
-    (avl_tree_of s, held_of s, omega (arith, c.clear.ensures.len, c.clear.ensures.capacity, size_entries (avl_tree_of s), s.within, s.spared))
+    (avl_tree_of s, held_at s c.deref.result.now c.deref.ensures.value, omega (arith, c.clear.ensures.len, c.clear.ensures.capacity, size_entries (avl_tree_of s), s.within, s.spared))
 
 pub lay_out-requires : goal.lay_out-requires
 lay_out-requires c =
     let s = c.args.self.now in
-    let t = avl_tree_of s in
     let es = avl_entries s in
-    let spare-is : vec_items c.trim_cells.new.cells ≡ trimmed es = c.trim_cells.ensures.after ∙ ap trimmed (c.collect_below.ensures.after t (held_of s) ∙ ap (λ xs. xs ++ es) c.clear.ensures.items) in
-    let count : vec_len c.trim_cells.new.cells ≡ length (trimmed es) = c.trim_cells.new.cells.ok.0 ∙ ap length spare-is in
+    let spare_is = spared s c.deref.result.now _ _ _ c.deref.ensures.value c.clear.ensures.items c.collect_below.ensures.after c.trim_cells.ensures.after in
+    let at = c.deref-2.ensures.value ∙ spare_is in
+    let count = ap length at in
     record {
       room = omega (arith, count, length_trimmed es, s.within, s.reserved);
       small = omega (arith, count, length_trimmed es, s.within, s.small);
-      wide = s.wide;
-      distinct = subst (λ xs. Distinct (characters xs)) (sym spare-is) (distinct_trimmed es s.distinct);
+      wide = c.deref_mut.ensures.len ∙ s.wide;
+      distinct = subst (λ xs. Distinct (characters xs)) (sym at) (distinct_trimmed es s.distinct);
     }
 
 pub build-self-requires : goal.build-self-requires
 build-self-requires c =
     let s = c.args.self.now in
-    let t = avl_tree_of s in
     let es = avl_entries s in
-    let spare-is : vec_items c.trim_cells.new.cells ≡ trimmed es = c.trim_cells.ensures.after ∙ ap trimmed (c.collect_below.ensures.after t (held_of s) ∙ ap (λ xs. xs ++ es) c.clear.ensures.items) in
-    let count : vec_len c.trim_cells.new.cells ≡ length (trimmed es) = c.trim_cells.new.cells.ok.0 ∙ ap length spare-is in
-    let ns = vec_items c.lay_out.new.nodes in
-    let laid : length ns ≡ length (trimmed es) = sym (length-map ns (λ (n : Node). n.entry)) ∙ ap length (c.lay_out.ensures.after ∙ spare-is) in
+    let spare_is = spared s c.deref.result.now _ _ _ c.deref.ensures.value c.clear.ensures.items c.collect_below.ensures.after c.trim_cells.ensures.after in
+    let v = c.as_mut_slice-nodes in
+    let long = laid_length v.result.now (trimmed es) (ap held_entries v.ensures.value ∙ c.lay_out.ensures.after ∙ c.deref-2.ensures.value ∙ spare_is) in
     record {
-      within = omega (arith, laid, count, c.len.ensures, c.lay_out.new.nodes.ok.0);
-      small = omega (arith, laid, length_trimmed es, s.within, s.small, c.lay_out.new.nodes.ok.0);
+      within = omega (arith, long, c.len.ensures, c.trim_cells.new.cells.ok.0, ap length spare_is);
+      small = omega (arith, long, length_trimmed es, s.within, s.small);
     }
 
 pub adopt-requires : goal.adopt-requires
 adopt-requires c i is =
-    let v = c.build-self.new.nodes in
-    let b = c.build-self.ensures.after in
-    omega (arith, link_within (vec_items v) c.build-self.result b.tree b.held i is, v.ok.0)
+    let b = c.build-self.ensures in
+    link_within c.build-self.new.nodes c.build-self.result b.tree b.held i is
 
 pub invariant_of-self : goal.invariant_of-self
 invariant_of-self c =
     let s = c.args.self.now in
-    let t = avl_tree_of s in
     let es = avl_entries s in
-    let spare-is : vec_items c.trim_cells.new.cells ≡ trimmed es = c.trim_cells.ensures.after ∙ ap trimmed (c.collect_below.ensures.after t (held_of s) ∙ ap (λ xs. xs ++ es) c.clear.ensures.items) in
-    let count : vec_len c.trim_cells.new.cells ≡ length (trimmed es) = c.trim_cells.new.cells.ok.0 ∙ ap length spare-is in
-    let ns = vec_items c.lay_out.new.nodes in
-    let laid : length ns ≡ length (trimmed es) = sym (length-map ns (λ (n : Node). n.entry)) ∙ ap length (c.lay_out.ensures.after ∙ spare-is) in
-    let ms = vec_items c.build-self.new.nodes in
-    let ks = vec_items c.adopt.new.nodes in
-    let link = c.build-self.result in
-    let b = c.build-self.ensures.after in
-    let n = c.len.result in
-    let long : n ≡ length ns = c.len.ensures ∙ count ∙ sym laid in
-    let is = c.adopt.ensures.after in
-    let w = subst (λ (qs : List Node). Whole qs link b.tree) (sym is) (whole_built ns ms link n long b) in
-    let dir = vec_items c.lay_out.new.directory in
-    let names : characters (held_entries ks) ≡ characters (held_entries ns) = ap (λ (qs : List Node). characters (held_entries qs)) is ∙ ap characters (entries_adopted ms link None) ∙ ap characters b.same in
-    let named : Named ks dir = λ i d at. c.lay_out.ensures.named i d (ap (λ cs. slice_get cs i) (sym names) ∙ at) in
-    let f = facts ks link dir b.tree w named in
-    let meaning = f.meaning ∙ built_entries ns ms link n long b ∙ c.lay_out.ensures.after ∙ spare-is in
-    let fewer = ap length meaning in
+    let spare_is = spared s c.deref.result.now _ _ _ c.deref.ensures.value c.clear.ensures.items c.collect_below.ensures.after c.trim_cells.ensures.after in
+    let v = c.as_mut_slice-nodes in
+    let laid = c.lay_out.new in
+    let held = ap held_entries v.ensures.value ∙ c.lay_out.ensures.after ∙ c.deref-2.ensures.value ∙ spare_is in
+    let count = c.len.ensures ∙ c.trim_cells.new.cells.ok.0 ∙ ap length spare_is in
+    let dir_is = with_items_is s.directory laid.directory (c.lay_out.auto.directory ∙ c.deref_mut.ensures.len) in
+    let named = subst (λ (d : List ℕ). Named v.result.now d) (sym dir_is) (subst (λ (qs : List Node). Named qs laid.directory) (sym v.ensures.value) c.lay_out.ensures.named) in
+    let is = with_items_is laid.nodes c.adopt.new.nodes (c.adopt.auto.nodes ∙ c.build-self.auto.nodes ∙ v.ensures.len) ∙ c.adopt.ensures in
+    let g = rebuilt v.result.now c.build-self.new.nodes (vec_items (with_items laid.nodes c.adopt.new.nodes)) c.build-self.result c.len.result (vec_items (with_items s.directory laid.directory)) (trimmed es) held count named c.build-self.ensures is in
     record {
-      rooted = f.rooted;
-      stored = f.stored;
-      apart = f.apart;
-      covered = f.covered;
-      sized = f.sized;
-      balanced = f.balanced;
-      named = named;
-      distinct = f.distinct;
-      wide = c.lay_out.ensures.wide;
-      within = omega (arith, fewer, length_trimmed es, s.within);
-      reserved = omega (arith, c.adopt.ensures.kept, c.build-self.ensures.kept, c.lay_out.ensures.kept, s.reserved);
+      rooted = g.rooted;
+      stored = g.stored;
+      apart = g.apart;
+      covered = g.covered;
+      sized = g.sized;
+      balanced = g.balanced;
+      named = g.named;
+      distinct = g.distinct;
+      wide = s.wide;
+      within = omega (arith, ap length g.meaning, length_trimmed es, s.within);
+      reserved = omega (arith, c.lay_out.ensures.kept, s.reserved);
       spared = omega (arith, c.trim_cells.ensures.kept, c.collect_below.ensures.kept, c.clear.ensures.capacity, s.spared);
       small = s.small;
     }
@@ -97,23 +82,14 @@ invariant_of-self c =
 pub returns : goal.returns
 returns c =
     let s = c.args.self.now in
-    let t = avl_tree_of s in
     let es = avl_entries s in
-    let spare-is : vec_items c.trim_cells.new.cells ≡ trimmed es = c.trim_cells.ensures.after ∙ ap trimmed (c.collect_below.ensures.after t (held_of s) ∙ ap (λ xs. xs ++ es) c.clear.ensures.items) in
-    let count : vec_len c.trim_cells.new.cells ≡ length (trimmed es) = c.trim_cells.new.cells.ok.0 ∙ ap length spare-is in
-    let ns = vec_items c.lay_out.new.nodes in
-    let laid : length ns ≡ length (trimmed es) = sym (length-map ns (λ (n : Node). n.entry)) ∙ ap length (c.lay_out.ensures.after ∙ spare-is) in
-    let ms = vec_items c.build-self.new.nodes in
-    let ks = vec_items c.adopt.new.nodes in
-    let link = c.build-self.result in
-    let b = c.build-self.ensures.after in
-    let n = c.len.result in
-    let long : n ≡ length ns = c.len.ensures ∙ count ∙ sym laid in
-    let is = c.adopt.ensures.after in
-    let w = subst (λ (qs : List Node). Whole qs link b.tree) (sym is) (whole_built ns ms link n long b) in
-    let dir = vec_items c.lay_out.new.directory in
-    let names : characters (held_entries ks) ≡ characters (held_entries ns) = ap (λ (qs : List Node). characters (held_entries qs)) is ∙ ap characters (entries_adopted ms link None) ∙ ap characters b.same in
-    let named : Named ks dir = λ i d at. c.lay_out.ensures.named i d (ap (λ cs. slice_get cs i) (sym names) ∙ at) in
-    let f = facts ks link dir b.tree w named in
-    let meaning = f.meaning ∙ built_entries ns ms link n long b ∙ c.lay_out.ensures.after ∙ spare-is in
-    record { after = meaning; kept = refl }
+    let spare_is = spared s c.deref.result.now _ _ _ c.deref.ensures.value c.clear.ensures.items c.collect_below.ensures.after c.trim_cells.ensures.after in
+    let v = c.as_mut_slice-nodes in
+    let laid = c.lay_out.new in
+    let held = ap held_entries v.ensures.value ∙ c.lay_out.ensures.after ∙ c.deref-2.ensures.value ∙ spare_is in
+    let count = c.len.ensures ∙ c.trim_cells.new.cells.ok.0 ∙ ap length spare_is in
+    let dir_is = with_items_is s.directory laid.directory (c.lay_out.auto.directory ∙ c.deref_mut.ensures.len) in
+    let named = subst (λ (d : List ℕ). Named v.result.now d) (sym dir_is) (subst (λ (qs : List Node). Named qs laid.directory) (sym v.ensures.value) c.lay_out.ensures.named) in
+    let is = with_items_is laid.nodes c.adopt.new.nodes (c.adopt.auto.nodes ∙ c.build-self.auto.nodes ∙ v.ensures.len) ∙ c.adopt.ensures in
+    let g = rebuilt v.result.now c.build-self.new.nodes (vec_items (with_items laid.nodes c.adopt.new.nodes)) c.build-self.result c.len.result (vec_items (with_items s.directory laid.directory)) (trimmed es) held count named c.build-self.ensures is in
+    record { after = g.meaning; kept = refl }

@@ -4,9 +4,9 @@ use Rattle.avl_tree.specs.Shape.{Named}
 use Rattle.avl.proofs.index.rebuild.lay_out.Given as goal
 
 abbrev pub invariant-loop-i : goal.invariant-loop-i
-invariant-loop-i l =
-    (held_entries (vec_items l.nodes) ≡ take l.i (vec_items l.entries))
-    × Named (vec_items l.nodes) (vec_items l.directory)
-    × (vec_len l.directory ≡ 65536)
-    × (vec_capacity l.nodes ≡ vec_capacity l.initial.nodes)
-    × (vec_len l.nodes ≡ l.i)
+invariant-loop-i l = record {
+  laid : held_entries (vec_items l.nodes) ≡ take l.i l.entries;
+  named : Named (vec_items l.nodes) l.directory;
+  kept : vec_capacity l.nodes ≡ vec_capacity l.initial.nodes;
+  long : vec_len l.nodes ≡ l.i;
+}

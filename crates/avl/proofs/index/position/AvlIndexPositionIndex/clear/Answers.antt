@@ -1,31 +1,22 @@
-use Rattle.std.proofs.Common.{List, length, None, vec_items, sym, refl, ap, subst, arith}
-use Rattle.avl_tree.specs.declared.node.Node.{Node}
-use Rattle.avl_tree.specs.Shape.{Named}
-use Rattle.avl_tree.specs.Tree.{leaf}
-use Rattle.avl_tree.proofs.Grown.{Whole}
-use Rattle.avl.proofs.Facts.{facts, whole_none, named_none}
+use Rattle.std.proofs.Common.{length, vec_items, refl, ap, arith}
+use Rattle.avl.proofs.Facts.{emptied}
 use Rattle.avl.proofs.index.position.AvlIndexPositionIndex.clear.Goals as goal
 
 pub invariant_of-self : goal.invariant_of-self
 invariant_of-self c =
     let s = c.args.self.now in
-    let v = c.clear.new.self in
-    let dir = vec_items s.directory in
-    let e = c.clear.ensures.items in
-    let named = subst (λ (ns : List Node). Named ns dir) (sym e) (named_none dir) in
-    let f = facts (vec_items v) None dir leaf (subst (λ (ns : List Node). Whole ns None leaf) (sym e) whole_none) named in
-    let none = ap length f.meaning in
+    let g = emptied (vec_items c.clear.new.self) (vec_items s.directory) c.clear.ensures.items in
     record {
-      rooted = f.rooted;
-      stored = f.stored;
-      apart = f.apart;
-      covered = f.covered;
-      sized = f.sized;
-      balanced = f.balanced;
-      named = named;
-      distinct = f.distinct;
+      rooted = g.rooted;
+      stored = g.stored;
+      apart = g.apart;
+      covered = g.covered;
+      sized = g.sized;
+      balanced = g.balanced;
+      named = g.named;
+      distinct = g.distinct;
       wide = s.wide;
-      within = omega (arith, none);
+      within = omega (arith, ap length g.meaning);
       reserved = omega (arith, c.clear.ensures.capacity, s.reserved);
       spared = s.spared;
       small = s.small;
@@ -33,9 +24,5 @@ invariant_of-self c =
 
 pub returns : goal.returns
 returns c =
-    let s = c.args.self.now in
-    let v = c.clear.new.self in
-    let dir = vec_items s.directory in
-    let e = c.clear.ensures.items in
-    let f = facts (vec_items v) None dir leaf (subst (λ (ns : List Node). Whole ns None leaf) (sym e) whole_none) (subst (λ (ns : List Node). Named ns dir) (sym e) (named_none dir)) in
-    record { after = f.meaning; kept = refl }
+    let g = emptied (vec_items c.clear.new.self) (vec_items c.args.self.now.directory) c.clear.ensures.items in
+    record { after = g.meaning; kept = refl }
