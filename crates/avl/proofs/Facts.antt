@@ -139,7 +139,7 @@ pub whole_none : Whole [] None leaf
 whole_none = record { at = refl; holds = tt; apart_all = tt; covers = λ k h. absurd (omega arith); sized = refl; evenly = tt }
 
 pub named_none : (dir : List ℕ) → Named [] dir
-named_none dir i c is = let z : ◌≡◌ {A = ℕ} 0 1 = cc in absurd (omega arith)
+named_none dir i c is = cc
 
 -- the facts of an index of no nodes
 pub emptied : (ns : List Node) (dir : List ℕ) → ns ≡ [] → Facts ns None dir []

@@ -1,5 +1,6 @@
 -- Nodes by number: what a write changes, and that a tree is held as long as its own nodes stay.
 use Rattle.std.proofs.Common.{◌≡◌, ℕ, zero, suc, ◌<◌, List, [], ◌∷◌, length, get_or, set, Some, Option, refl, ap, ◌∙◌, arith}
+use Rattle.std.proofs.lemmas.Option.{get_or_from_slice_get}
 use Rattle.std.specs.List.{AllByRecursion, slice_get}
 use Rattle.std.proofs.ByRecursion.{All-weaker}
 use Rattle.indexes.specs.Laws.{Away}
@@ -8,16 +9,9 @@ use Rattle.avl_tree.specs.Nodes.{altered, Holds, Held, Kept, held_entries}
 use Rattle.avl_tree.specs.Tree.{Tree, leaf, node, numbers}
 use Rattle.avl_tree.proofs.Lists.{all_left, all_right, Disjoint}
 
-pub nth_within : {X : Type 0} (xs : List X) (i : ℕ) (x : X) → slice_get xs i ≡ Some x → i < length xs
-nth_within [] i x is = let z : ◌≡◌ {A = ℕ} 0 1 = cc in absurd (omega arith)
-nth_within (y ∷ ys) zero x is = omega arith
-nth_within (y ∷ ys) (suc i) x is = let h = nth_within ys i x is in omega (arith, h)
-
 -- what was read is what is there
 pub read_is : {X : Type 0} (xs : List X) (i : ℕ) (x y : X) → slice_get xs i ≡ Some x → y ≡ get_or xs i y → y ≡ x
-read_is [] i x y is read = let z : ◌≡◌ {A = ℕ} 0 1 = cc in absurd (omega arith)
-read_is (z ∷ zs) zero x y is read = cc
-read_is (z ∷ zs) (suc i) x y is read = read_is zs i x y is read
+read_is xs i x y is read = read ∙ get_or_from_slice_get xs i x y is
 
 pub length_altered : (f : Node → Node) (ns : List Node) (i : ℕ) → length (altered f ns i) ≡ length ns
 length_altered f [] i = refl
@@ -25,7 +19,7 @@ length_altered f (n ∷ ns) zero = refl
 length_altered f (n ∷ ns) (suc i) = ap suc (length_altered f ns i)
 
 pub altered_same : (f : Node → Node) (ns : List Node) (i : ℕ) (n : Node) → slice_get ns i ≡ Some n → slice_get (altered f ns i) i ≡ Some (f n)
-altered_same f [] i n is = let z : ◌≡◌ {A = ℕ} 0 1 = cc in absurd (omega arith)
+altered_same f [] i n is = cc
 altered_same f (m ∷ ns) zero n is = let e : m ≡ n = cc in ap (λ x. Some (f x)) e
 altered_same f (m ∷ ns) (suc i) n is = altered_same f ns i n is
 

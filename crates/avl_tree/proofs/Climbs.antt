@@ -1,5 +1,6 @@
 -- One step up: the parent of a subtree, and on which side of it the subtree stands.
 use Rattle.std.proofs.Common.{eqb, ◌≡◌, ℕ, ◌+◌, ◌-◌, ◌<◌, ◌≤◌, true, false, ◌⊎◌, List, ◌∷◌, ◌++◌, length, get_or, Some, None, Option, sym, refl, ap, ◌∙◌, subst, inl, inr, arith, eq-eqb, eqb-true}
+use Rattle.std.proofs.lemmas.Option.{slice_get_within}
 use Rattle.std.specs.List.{slice_get}
 use Rattle.indexes.specs.Laws.{Away, Apart}
 use Rattle.indexes.specs.declared.entry.Entry.{Entry}
@@ -8,7 +9,7 @@ use Rattle.avl_tree.specs.Climb.{Found, Climbs}
 use Rattle.std.specs.Option.{option_eq}
 use Rattle.avl_tree.specs.Nodes.{cell, Holds, Held}
 use Rattle.avl_tree.specs.Tree.{Tree, leaf, node, entries, numbers, size, top}
-use Rattle.avl_tree.proofs.Cells.{nth_within, read_is}
+use Rattle.avl_tree.proofs.Cells.{read_is}
 use Rattle.avl_tree.proofs.Lists.{parts, all_right}
 use Rattle.avl_tree.proofs.Sizes.{size_entries}
 use Rattle.avl_tree.proofs.Steps.{nth_left, nth_mid, nth_right}
@@ -74,7 +75,7 @@ found_entry (node l j e r) a i x b o (inl w) =
     nth_mid (entries l) e (entries r) (o + size a) (omega (arith, w.1, ap size la, size_entries l)) ∙ ap Some (sym xe)
 found_entry (node l j e r) a i x b o (inr (inl w)) =
     let h = found_entry l a i x b o w in
-    nth_left (entries l) (e ∷ entries r) (o + size a) (nth_within (entries l) (o + size a) x h) ∙ h
+    nth_left (entries l) (e ∷ entries r) (o + size a) (slice_get_within (entries l) (o + size a) x h) ∙ h
 found_entry (node l j e r) a i x b o (inr (inr w)) =
     let h = found_entry r a i x b w.0 w.2 in
     let q : o + size a - length (entries l) - 1 ≡ w.0 + size a = omega (arith, w.1, size_entries l) in
@@ -82,8 +83,8 @@ found_entry (node l j e r) a i x b o (inr (inr w)) =
 
 -- a number that is among those of a tree is not among those of a tree apart from it
 in_both : (l : Tree) (j i : ℕ) (r : Tree) → Apart (numbers l ++ j ∷ numbers r) → top l ≡ Some i → top r ≡ Some i → ⊥
-in_both leaf j i r a p q = let z : ◌≡◌ {A = ℕ} 0 1 = cc in omega arith
-in_both (node u k x v) j i leaf a p q = let z : ◌≡◌ {A = ℕ} 0 1 = cc in omega arith
+in_both leaf j i r a p q = cc
+in_both (node u k x v) j i leaf a p q = cc
 in_both (node u k x v) j i (node y m z w) a p q =
     let d = (parts (numbers u ++ k ∷ numbers v) j (numbers y ++ m ∷ numbers w) a).across in
     let off = (all_right (λ n. Away n (numbers y ++ m ∷ numbers w)) (numbers u) (k ∷ numbers v) d).0 in
@@ -95,12 +96,12 @@ link_at : (link : Option ℕ) (i : ℕ) → link ≡ Some i → option_eq eqb li
 link_at link i is = subst (λ k. option_eq eqb k (Some i) ≡ true) (sym is) (eq-eqb i i refl)
 
 at_link : (link : Option ℕ) (i : ℕ) → option_eq eqb link (Some i) ≡ true → link ≡ Some i
-at_link None i is = let z : ◌≡◌ {A = ℕ} 0 1 = cc in absurd (omega arith)
+at_link None i is = cc
 at_link (Some k) i is = ap Some (eqb-true k i is)
 
 -- the node of a subtree
 held_cell : (ns : List Node) (q : Option ℕ) (s : Tree) (i : ℕ) (n : Node) → Holds ns q s → top s ≡ Some i → n ≡ get_or ns i n → n.parent ≡ q
-held_cell ns q leaf i n h is read = let z : ◌≡◌ {A = ℕ} 0 1 = cc in absurd (omega arith)
+held_cell ns q leaf i n h is read = cc
 held_cell ns q (node a k x b) i n h is read =
     let e : k ≡ i = cc in
     ap (λ (m : Node). m.parent) (read_is ns i (cell q a x b) n (subst (λ m. slice_get ns m ≡ Some (cell q a x b)) e h.0) read)
@@ -120,8 +121,7 @@ module _ (ns : List Node) (i : ℕ) (n : Node) (read : n ≡ get_or ns i n) wher
         | inl z ↦ z.1
         | inr a ↦
             let p = held_cell ns (Some a.number) s i n a.below c.at read in
-            let z : ◌≡◌ {A = ℕ} 0 1 = cc in
-            absurd (omega arith)
+            cc
       ]
 
   pub parent_of : (t s : Tree) (o j : ℕ) → Climbs ns i t s o → n.parent ≡ Some j → (a : Above ns t s o) × (a.number ≡ j)
@@ -129,8 +129,7 @@ module _ (ns : List Node) (i : ℕ) (n : Node) (read : n ≡ get_or ns i n) wher
       elim (up ns None t s o c.holds c.found) [
         | inl z ↦
             let p = held_cell ns None s i n (subst (Holds ns None) z.0 c.holds) c.at read in
-            let w : ◌≡◌ {A = ℕ} 0 1 = cc in
-            absurd (omega arith)
+            cc
         | inr a ↦
             let p = held_cell ns (Some a.number) s i n a.below c.at read in
             let e : a.number ≡ j = cc in
@@ -171,8 +170,7 @@ module _ (ns : List Node) (i : ℕ) (n : Node) (read : n ≡ get_or ns i n) wher
           | inl z ↦ z.1
           | inr z ↦
               let r = link_at m.right i (ap (λ (d : Node). d.right) (parent_cell t s o c) ∙ ap top (sym z.0) ∙ c.at) in
-              let w : ◌≡◌ {A = ℕ} 0 1 = cc in
-              absurd (omega arith)
+              cc
         ]
 
     pub larger : (t s : Tree) (o : ℕ) → (c : Climbs ns i t s o) → size s < size (node (parent_of t s o j c is).0.lower (parent_of t s o j c is).0.number (parent_of t s o j c is).0.entry (parent_of t s o j c is).0.upper)

@@ -1,5 +1,6 @@
 -- An index with one node more holds the tree with that node put in.
 use Rattle.std.proofs.Common.{◌≡◌, ℕ, zero, suc, ◌+◌, ◌<◌, ◌≤◌, true, eqb, List, [], ◌∷◌, ◌++◌, length, set, Some, None, Option, sym, refl, ap, ◌∙◌, subst, inl, inr, arith, length-append, eq-eqb}
+use Rattle.std.proofs.lemmas.Option.{slice_get_within}
 use lib.ListN.{length-map}
 use Rattle.std.proofs.lemmas.List.{map-append}
 use Rattle.std.specs.List.{insert, slice_get}
@@ -15,7 +16,6 @@ use Rattle.avl_tree.specs.Shape.{member, Named}
 use Rattle.avl_tree.specs.Tree.{Tree, leaf, node, numbers, size}
 use Rattle.avl_tree.specs.Turns.{put, revised}
 use Rattle.avl_tree.proofs.Builds.{same_length}
-use Rattle.avl_tree.proofs.Cells.{nth_within}
 use Rattle.avl_tree.proofs.Evens.{put_even}
 use Rattle.avl_tree.proofs.Grown.{Whole}
 use Rattle.avl_tree.proofs.Puts.{inserts}
@@ -26,13 +26,13 @@ use Rattle.avl_tree.proofs.Ties.{adopt_self, length_adopted, entries_adopted}
 holds_push : (ns : List Node) (n : Node) (p : Option ℕ) (t : Tree) → Holds ns p t → Holds (ns ++ n ∷ []) p t
 holds_push ns n p leaf h = tt
 holds_push ns n p (node l i e r) h =
-    (nth_left ns (n ∷ []) i (nth_within ns i (cell p l e r) h.0) ∙ h.0, holds_push ns n (Some i) l h.1, holds_push ns n (Some i) r h.2)
+    (nth_left ns (n ∷ []) i (slice_get_within ns i (cell p l e r) h.0) ∙ h.0, holds_push ns n (Some i) l h.1, holds_push ns n (Some i) r h.2)
 
 -- the next number is no node's
 off_length : (ns : List Node) (p : Option ℕ) (t : Tree) → Holds ns p t → Away (length ns) (numbers t)
 off_length ns p leaf h = tt
 off_length ns p (node l i e r) h =
-    let within = nth_within ns i (cell p l e r) h.0 in
+    let within = slice_get_within ns i (cell p l e r) h.0 in
     All-append (λ d. d ≡ length ns → ⊥) (numbers l) (i ∷ numbers r) (off_length ns (Some i) l h.1) ((λ same. omega (arith, within, same)), off_length ns (Some i) r h.2)
 
 member_more : (k i place : ℕ) (xs : List ℕ) → member k xs ≡ true → member k (insert xs place i) ≡ true
@@ -105,7 +105,7 @@ leads_more cs dir c n is old new within i d at =
           let was = sym (nth_left cs (c ∷ []) i lt) ∙ at in
           nth_set_other dir c d n (λ e. new i (was ∙ ap Some e)) ∙ old i d was
       | inr ge ↦
-          let low = nth_within (cs ++ c ∷ []) i d at in
+          let low = slice_get_within (cs ++ c ∷ []) i d at in
           let last : i ≡ length cs = omega (arith, ge, low, length-append cs (c ∷ [])) in
           let both : Some c ≡ Some d = sym (nth_mid cs c [] i last) ∙ at in
           let e : c ≡ d = cc in

@@ -1,6 +1,8 @@
 -- The directory: each entry's character leads to its node, so no character stands twice, and a
 -- character whose directory entry is not its node is not listed.
-use Rattle.std.proofs.Common.{◌≡◌, ℕ, zero, suc, ◌+◌, true, eqb, ◌⊎◌, List, [], ◌∷◌, ◌++◌, map, Some, Option, sym, refl, ap, ◌∙◌, subst, inl, inr, arith, eqb-true}
+use Rattle.std.proofs.Common.{◌≡◌, ℕ, ◌+◌, true, eqb, ◌⊎◌, List, [], ◌∷◌, ◌++◌, map, Some, Option, sym, refl, ap, ◌∙◌, subst, inl, inr, eqb-true}
+use Rattle.std.specs.Option.{option_map}
+use Rattle.std.proofs.lemmas.Option.{slice_get-map}
 use Rattle.std.specs.List.{AllByRecursion, slice_get}
 use Rattle.std.proofs.ByRecursion.{All-append}
 use Rattle.std.proofs.lemmas.List.{map-append}
@@ -16,9 +18,7 @@ use Rattle.avl_tree.specs.Shape.{member, Named}
 use Rattle.avl_tree.specs.Tree.{Tree, leaf, node, entries, numbers, size}
 
 pub nth_map : {X Y : Type 0} (f : X → Y) (xs : List X) (i : ℕ) (x : X) → slice_get xs i ≡ Some x → slice_get (map f xs) i ≡ Some (f x)
-nth_map f [] i x is = let z : ◌≡◌ {A = ℕ} 0 1 = cc in absurd (omega arith)
-nth_map f (y ∷ ys) zero x is = let e : y ≡ x = cc in ap (λ z. Some (f z)) e
-nth_map f (y ∷ ys) (suc i) x is = nth_map f ys i x is
+nth_map f xs i x is = slice_get-map f xs i ∙ ap (option_map f) is
 
 -- the character of a node
 pub name_at_lem : (ns : List Node) (i : ℕ) (n : Node) → slice_get ns i ≡ Some n → slice_get (characters (held_entries ns)) i ≡ Some n.entry.character
@@ -34,7 +34,7 @@ entry_names ns dir p (node l i e r) h named =
 
 away_by : (f : ℕ → Option ℕ) (x y : ℕ) (xs ys : List ℕ) → map f xs ≡ map Some ys → f x ≡ Some y → Away y ys → Away x xs
 away_by f x y [] ys e is off = tt
-away_by f x y (z ∷ xs) [] e is off = let w : ◌≡◌ {A = ℕ} 0 1 = cc in absurd (omega arith)
+away_by f x y (z ∷ xs) [] e is off = cc
 away_by f x y (z ∷ xs) (w ∷ ys) e is off =
     let head : f z ≡ Some w = cc in
     let tail : map f xs ≡ map Some ys = cc in
@@ -42,7 +42,7 @@ away_by f x y (z ∷ xs) (w ∷ ys) e is off =
 
 apart_by : (f : ℕ → Option ℕ) (xs ys : List ℕ) → map f xs ≡ map Some ys → Apart ys → Apart xs
 apart_by f [] ys e a = tt
-apart_by f (x ∷ xs) [] e a = let w : ◌≡◌ {A = ℕ} 0 1 = cc in absurd (omega arith)
+apart_by f (x ∷ xs) [] e a = cc
 apart_by f (x ∷ xs) (y ∷ ys) e a =
     let head : f x ≡ Some y = cc in
     let tail : map f xs ≡ map Some ys = cc in
@@ -71,7 +71,7 @@ unlisted ns dir p t c k h named is other =
 
 -- a node of the tree has its subtree
 pub spot : (t : Tree) (k : ℕ) → member k (numbers t) ≡ true → (a : Tree) × (x : Entry) × (b : Tree) × (o : ℕ) × Found t (node a k x b) o
-spot leaf k is = let z : ◌≡◌ {A = ℕ} 0 1 = cc in absurd (omega arith)
+spot leaf k is = cc
 spot (node l j e r) k is =
     elim (split (numbers l) (j ∷ numbers r) is) [
       | inl w ↦ let s = spot l k w in (s.0, s.1, s.2, s.3, inr (inl s.4))

@@ -1,5 +1,6 @@
 -- A put into a tree is a put into its in-order lists.
-use Rattle.std.proofs.Common.{◌≡◌, ℕ, zero, suc, ◌+◌, ◌-◌, ◌<◌, ◌≤◌, Bool, true, false, cond, leb, List, [], ◌∷◌, ◌++◌, length, sym, refl, ap, ◌∙◌, arith, leb-false, leb-true}
+use Rattle.std.proofs.Common.{◌≡◌, ℕ, suc, ◌+◌, ◌-◌, ◌<◌, ◌≤◌, Bool, true, false, cond, leb, List, [], ◌∷◌, ◌++◌, length, sym, refl, ap, ◌∙◌, arith, leb-false, leb-true}
+use Rattle.std.proofs.lemmas.List.Edits.{insert-append_left, insert-append_right}
 use Rattle.std.specs.List.{insert}
 use Rattle.indexes.specs.declared.entry.Entry.{Entry}
 use Rattle.avl_tree.specs.Tree.{Tree, leaf, node, entries, numbers, size}
@@ -7,21 +8,10 @@ use Rattle.avl_tree.specs.Turns.{balanced, put}
 use Rattle.avl_tree.proofs.Keeps.{balanced_lists}
 use Rattle.avl_tree.proofs.Sizes.{size_entries, size_numbers}
 
-pub insert_left : {X : Type 0} (xs ys : List X) (i : ℕ) (x : X) → i ≤ length xs → insert (xs ++ ys) i x ≡ insert xs i x ++ ys
-insert_left [] ys zero x within = refl
-insert_left [] ys (suc i) x within = absurd (omega arith)
-insert_left (y ∷ xs) ys zero x within = refl
-insert_left (y ∷ xs) ys (suc i) x within = ap (λ zs. y ∷ zs) (insert_left xs ys i x (omega arith))
-
-pub insert_right : {X : Type 0} (xs : List X) (z : X) (ys : List X) (i : ℕ) (x : X) → length xs < i → insert (xs ++ z ∷ ys) i x ≡ xs ++ z ∷ insert ys (i - length xs - 1) x
-insert_right [] z ys zero x past = absurd (omega arith)
-insert_right [] z ys (suc i) x past =
-    let e : i ≡ suc i - 0 - 1 = omega arith in
-    ap (λ k. z ∷ insert ys k x) e
-insert_right (y ∷ xs) z ys zero x past = absurd (omega arith)
-insert_right (y ∷ xs) z ys (suc i) x past =
-    let e : i - length xs - 1 ≡ suc i - suc (length xs) - 1 = omega arith in
-    ap (λ zs. y ∷ zs) (insert_right xs z ys i x (omega arith) ∙ ap (λ k. xs ++ z ∷ insert ys k x) e)
+pub insert_behind : {X : Type 0} (xs : List X) (z : X) (ys : List X) (i : ℕ) (x : X) → length xs < i → insert (xs ++ z ∷ ys) i x ≡ xs ++ z ∷ insert ys (i - length xs - 1) x
+insert_behind xs z ys i x past =
+    let e : i - length xs ≡ suc (i - length xs - 1) = omega arith in
+    insert-append_right xs (z ∷ ys) (length xs) i x refl (omega arith) ∙ ap (λ k. xs ++ insert (z ∷ ys) k x) e
 
 pub record Inserts (t : Tree) (place i : ℕ) (x : Entry) : Type 0 where
   pub listed : numbers (put t place i x) ≡ insert (numbers t) place i
@@ -32,7 +22,7 @@ pub record Inserts (t : Tree) (place i : ℕ) (x : Entry) : Type 0 where
 left_of : (l : Tree) (j : ℕ) (e : Entry) (r : Tree) (place i : ℕ) (x : Entry) → place ≤ size l → Inserts l place i x → (numbers (balanced (put l place i x) j e r) ≡ insert (numbers l ++ j ∷ numbers r) place i) × (entries (balanced (put l place i x) j e r) ≡ insert (entries l ++ e ∷ entries r) place x) × (size (balanced (put l place i x) j e r) ≡ size l + size r + 1 + 1)
 left_of l j e r place i x low k =
     let b = balanced_lists (put l place i x) j e r in
-    (b.listed ∙ ap (λ is. is ++ j ∷ numbers r) k.listed ∙ sym (insert_left (numbers l) (j ∷ numbers r) place i (omega (arith, size_numbers l))), b.written ∙ ap (λ es. es ++ e ∷ entries r) k.written ∙ sym (insert_left (entries l) (e ∷ entries r) place x (omega (arith, size_entries l))), omega (arith, b.sized, k.sized))
+    (b.listed ∙ ap (λ is. is ++ j ∷ numbers r) k.listed ∙ sym (insert-append_left (numbers l) (j ∷ numbers r) place i (omega (arith, size_numbers l))), b.written ∙ ap (λ es. es ++ e ∷ entries r) k.written ∙ sym (insert-append_left (entries l) (e ∷ entries r) place x (omega (arith, size_entries l))), omega (arith, b.sized, k.sized))
 
 right_of : (l : Tree) (j : ℕ) (e : Entry) (r : Tree) (place i : ℕ) (x : Entry) → size l < place → Inserts r (place - size l - 1) i x → (numbers (balanced l j e (put r (place - size l - 1) i x)) ≡ insert (numbers l ++ j ∷ numbers r) place i) × (entries (balanced l j e (put r (place - size l - 1) i x)) ≡ insert (entries l ++ e ∷ entries r) place x) × (size (balanced l j e (put r (place - size l - 1) i x)) ≡ size l + size r + 1 + 1)
 right_of l j e r place i x high k =
@@ -40,7 +30,7 @@ right_of l j e r place i x high k =
     let b = balanced_lists l j e (put r q i x) in
     let n : q ≡ place - length (numbers l) - 1 = ap (λ m. place - m - 1) (size_numbers l) in
     let m : q ≡ place - length (entries l) - 1 = ap (λ m. place - m - 1) (size_entries l) in
-    (b.listed ∙ ap (λ is. numbers l ++ j ∷ is) (k.listed ∙ ap (λ p. insert (numbers r) p i) n) ∙ sym (insert_right (numbers l) j (numbers r) place i (omega (arith, size_numbers l))), b.written ∙ ap (λ es. entries l ++ e ∷ es) (k.written ∙ ap (λ p. insert (entries r) p x) m) ∙ sym (insert_right (entries l) e (entries r) place x (omega (arith, size_entries l))), omega (arith, b.sized, k.sized))
+    (b.listed ∙ ap (λ is. numbers l ++ j ∷ is) (k.listed ∙ ap (λ p. insert (numbers r) p i) n) ∙ sym (insert_behind (numbers l) j (numbers r) place i (omega (arith, size_numbers l))), b.written ∙ ap (λ es. entries l ++ e ∷ es) (k.written ∙ ap (λ p. insert (entries r) p x) m) ∙ sym (insert_behind (entries l) e (entries r) place x (omega (arith, size_entries l))), omega (arith, b.sized, k.sized))
 
 either : (b : Bool) (t u : Tree) (is : List ℕ) (es : List Entry) (n : ℕ) → (b ≡ true → (numbers t ≡ is) × (entries t ≡ es) × (size t ≡ n)) → (b ≡ false → (numbers u ≡ is) × (entries u ≡ es) × (size u ≡ n)) → (numbers (cond b t u) ≡ is) × (entries (cond b t u) ≡ es) × (size (cond b t u) ≡ n)
 either true t u is es n x y = x refl

@@ -1,5 +1,6 @@
 -- Entries laid out as nodes, and the tree built of them.
 use Rattle.std.proofs.Common.{◌≡◌, ℕ, zero, suc, ◌+◌, ◌<◌, ◌≤◌, true, eqb, List, [], ◌∷◌, ◌++◌, map, length, get_or, take, set, Some, None, Option, sym, refl, ap, ◌∙◌, subst, inl, inr, arith, eq-eqb}
+use Rattle.std.proofs.lemmas.Option.{slice_get_within, get_or_from_slice_get}
 use lib.ListN.{length-map}
 use Rattle.std.specs.List.{slice_get}
 use Rattle.std.proofs.lemmas.List.{map-append, take_more, take-map, get_or-map, get_or-take, length-take-le}
@@ -13,21 +14,19 @@ use Rattle.avl_tree.specs.Nodes.{cell, Holds, adopted, held_entries}
 use Rattle.avl_tree.specs.Shape.{member, Named}
 use Rattle.avl_tree.specs.Tree.{Tree, leaf, node, entries, numbers}
 use Rattle.avl_tree.proofs.Builds.{same_length}
-use Rattle.avl_tree.proofs.Cells.{nth_within}
 use Rattle.avl_tree.proofs.Grown.{Whole}
 use Rattle.avl_tree.proofs.Inserted.{Leads, leads_more}
 use Rattle.avl_tree.proofs.Names.{nth_map}
 use Rattle.avl_tree.proofs.Ranges.{length_range, apart_range, nth_range}
-use Rattle.avl_tree.proofs.Seeks.{nth_get}
 use Rattle.avl_tree.proofs.Sizes.{size_numbers}
 use Rattle.avl_tree.proofs.Ties.{adopt_self, length_adopted}
 
 -- in a list without doubles an element is not among those before it
 fresh : (cs : List ℕ) (i : ℕ) → Distinct cs → i < length cs → (k : ℕ) → slice_get (take i cs) k ≡ Some (get_or cs i 0) → ⊥
 fresh cs i distinct within k is =
-    let low = nth_within (take i cs) k (get_or cs i 0) is in
+    let low = slice_get_within (take i cs) k (get_or cs i 0) is in
     let lt : k < i = omega (arith, low, length-take-le i cs (omega (arith, within))) in
-    distinct k i lt within (sym (get_or-take i cs k 0 lt) ∙ nth_get (take i cs) k (get_or cs i 0) 0 is)
+    distinct k i lt within (sym (get_or-take i cs k 0 lt) ∙ get_or_from_slice_get (take i cs) k (get_or cs i 0) 0 is)
 
 -- one entry more is laid out
 pub laid_more : (es : List Entry) (ns : List Node) (i : ℕ) (e : Entry) (n : Node) → i < length es → e ≡ get_or es i e → n.entry ≡ e → held_entries ns ≡ take i es → held_entries (ns ++ n ∷ []) ≡ take (i + 1) es
@@ -54,8 +53,8 @@ picked ns p (node l i e r) h =
 
 some_same : {X : Type 0} (xs ys : List X) → map Some xs ≡ map Some ys → xs ≡ ys
 some_same [] [] e = refl
-some_same [] (y ∷ ys) e = let z : ◌≡◌ {A = ℕ} 0 1 = cc in absurd (omega arith)
-some_same (x ∷ xs) [] e = let z : ◌≡◌ {A = ℕ} 0 1 = cc in absurd (omega arith)
+some_same [] (y ∷ ys) e = cc
+some_same (x ∷ xs) [] e = cc
 some_same (x ∷ xs) (y ∷ ys) e =
     let heads : Some x ≡ Some y = cc in
     let same : x ≡ y = cc in

@@ -1,5 +1,6 @@
 -- Where the node of a character stands, and a character that has none.
 use Rattle.std.proofs.Common.{◌≡◌, ℕ, zero, suc, ◌+◌, ◌<◌, ◌≤◌, List, [], ◌∷◌, length, get_or, Some, Option, sym, refl, ap, ◌∙◌, arith}
+use Rattle.std.proofs.lemmas.Option.{slice_get_within, get_or_from_slice_get}
 use lib.ListN.{length-map}
 use Rattle.avl_tree.proofs.Builds.{nth_some}
 use Rattle.std.specs.List.{slice_get}
@@ -11,7 +12,7 @@ use Rattle.avl_tree.specs.declared.node.Node.{Node}
 use Rattle.avl_tree.specs.Climb.{Climbs}
 use Rattle.avl_tree.specs.Nodes.{cell, Held, held_entries}
 use Rattle.avl_tree.specs.Tree.{Tree, node, entries, size}
-use Rattle.avl_tree.proofs.Cells.{nth_within, read_is}
+use Rattle.avl_tree.proofs.Cells.{read_is}
 use Rattle.avl_tree.proofs.Climbs.{climb_held, found_entry}
 use Rattle.avl_tree.proofs.Grown.{Whole}
 use Rattle.avl_tree.proofs.Names.{spot, name_at_lem}
@@ -47,31 +48,26 @@ located ns root t i n w small within read =
       stands = found_entry t a i x b o s.4;
     }
 
-pub nth_get : {X : Type 0} (xs : List X) (i : ℕ) (x d : X) → slice_get xs i ≡ Some x → get_or xs i d ≡ x
-nth_get [] i x d is = let z : ◌≡◌ {A = ℕ} 0 1 = cc in absurd (omega arith)
-nth_get (y ∷ ys) zero x d is = cc
-nth_get (y ∷ ys) (suc i) x d is = nth_get ys i x d is
-
 pub place_seen : (es : List Entry) (k c : ℕ) (x : Entry) → Distinct (characters es) → slice_get es k ≡ Some x → x.character ≡ c → place_of es c ≡ Some k
 place_seen es k c x distinct is name =
-    place_of_at es k c x distinct (nth_within es k x is) (ap (λ (e : Entry). e.character) (nth_get es k x x is) ∙ name)
+    place_of_at es k c x distinct (slice_get_within es k x is) (ap (λ (e : Entry). e.character) (get_or_from_slice_get es k x x is) ∙ name)
 
 -- a character that is not listed is no node's
 pub no_node : (ns : List Node) (root : Option ℕ) (t : Tree) (c : ℕ) → Whole ns root t → size t ≤ 65536 → Away c (characters (entries t)) → (i : ℕ) (n : Node) → slice_get ns i ≡ Some n → n.entry.character ≡ c → ⊥
 no_node ns root t c w small away i n at name =
-    let within = nth_within ns i n at in
-    let l = located ns root t i n w small within (sym (nth_get ns i n n at)) in
+    let within = slice_get_within ns i n at in
+    let l = located ns root t i n w small within (sym (get_or_from_slice_get ns i n n at)) in
     off (entries t) (l.offset + size l.lower) l.entry away l.stands (ap (λ (e : Entry). e.character) (sym l.entry_is) ∙ name)
   where
     off : (es : List Entry) (k : ℕ) (x : Entry) → Away c (characters es) → slice_get es k ≡ Some x → x.character ≡ c → ⊥
-    off [] k x a is name = let z : ◌≡◌ {A = ℕ} 0 1 = cc in omega arith
+    off [] k x a is name = cc
     off (y ∷ ys) zero x a is name = let e : y ≡ x = cc in a.0 (ap (λ (d : Entry). d.character) e ∙ name)
     off (y ∷ ys) (suc k) x a is name = off ys k x a.1 is name
 
 -- nor is it among the characters of the nodes
 pub no_name : (ns : List Node) (root : Option ℕ) (t : Tree) (c : ℕ) → Whole ns root t → size t ≤ 65536 → Away c (characters (entries t)) → (i : ℕ) → slice_get (characters (held_entries ns)) i ≡ Some c → ⊥
 no_name ns root t c w small away i is =
-    let within = nth_within (characters (held_entries ns)) i c is in
+    let within = slice_get_within (characters (held_entries ns)) i c is in
     let long = length-map (held_entries ns) (λ (e : Entry). e.character) ∙ length-map ns (λ (n : Node). n.entry) in
     let s = nth_some ns i (omega (arith, within, long)) in
     let name = name_at_lem ns i s.0 s.1 in

@@ -1,5 +1,6 @@
 -- What a put below a root makes, from what it makes on one side.
 use Rattle.std.proofs.Common.{◌≡◌, ℕ, ◌-◌, ◌<◌, ◌≤◌, leb, List, ◌∷◌, ◌++◌, length, get_or, Some, None, Option, sym, refl, ap, ◌∙◌, subst, arith, le-leb}
+use Rattle.std.proofs.lemmas.List.Edits.{insert-append_left}
 use borrow.Author.Tests.{lt-leb}
 use Rattle.std.specs.List.{insert}
 use Rattle.std.proofs.lemmas.Bool.{cond-true, cond-false}
@@ -11,7 +12,7 @@ use Rattle.avl_tree.specs.Nodes.{Held, Makes, Ready, Sprout, Puts}
 use Rattle.avl_tree.specs.Tree.{Tree, leaf, node, numbers, size}
 use Rattle.avl_tree.specs.Turns.{balanced, put}
 use Rattle.avl_tree.proofs.Lists.{away_parts}
-use Rattle.avl_tree.proofs.Puts.{inserts, insert_left, insert_right}
+use Rattle.avl_tree.proofs.Puts.{inserts, insert_behind}
 use Rattle.avl_tree.proofs.Sizes.{size_numbers}
 use Rattle.avl_tree.proofs.Weighs.{lefts}
 use Rattle.avl_tree.proofs.Sprouts.{root_of, sprout_left, sprout_right, sides_left, sides_right}
@@ -29,8 +30,7 @@ put_none ns link place new is =
     alone leaf x s = s.fresh
     alone (node l i e r) x s =
         let z : None ≡ Some i = sym is ∙ s.held.at in
-        let no : ◌≡◌ {A = ℕ} 0 1 = cc in
-        absurd (omega arith)
+        cc
 
 module _ (ns : List Node) (link : Option ℕ) (j : ℕ) (n : Node) (is : link ≡ Some j) (read : n ≡ get_or ns j n) (place new : ℕ) (ms : List Node) (m : ℕ) where
   pub ready_put_left : Puts ns ms n.left place new m → (t : Tree) (x : Entry) → (s : Sprout ns link place new t x) → place ≤ size (root_of ns link j n is read place new t x s).lower → Ready ms (Some m) j n.right
@@ -56,7 +56,7 @@ module _ (ns : List Node) (link : Option ℕ) (j : ℕ) (n : Node) (is : link �
             let v = sides_left ns link j n is read place new ms m one t x s low in
             let off2 = subst (λ u. Away k (numbers u)) o.is off.1 in
             let a = away_parts k (numbers l) j (numbers r) off2 in
-            let same = insert_left (numbers l) (j ∷ numbers r) place new (omega (arith, size_numbers l, low)) ∙ ap (λ zs. zs ++ j ∷ numbers r) (sym (inserts l place new x low).listed) in
+            let same = insert-append_left (numbers l) (j ∷ numbers r) place new (omega (arith, size_numbers l, low)) ∙ ap (λ zs. zs ++ j ∷ numbers r) (sym (inserts l place new x low).listed) in
             two.kept (put l place new x) o.entry r v k (subst (Away k) same (away_inserted k new (numbers l ++ j ∷ numbers r) place off.0 off2))
             ∙ one.kept l x (sprout_left ns link j n is read place new t x s low) k (off.0, a.0);
         same = two.same ∙ one.same;
@@ -88,7 +88,7 @@ module _ (ns : List Node) (link : Option ℕ) (j : ℕ) (n : Node) (is : link �
             let off2 = subst (λ u. Away k (numbers u)) o.is off.1 in
             let a = away_parts k (numbers l) j (numbers r) off2 in
             let at : place - length (numbers l) - 1 ≡ q = ap (λ z. place - z - 1) (sym (size_numbers l)) ∙ sym h.1 in
-            let same = insert_right (numbers l) j (numbers r) place new (omega (arith, size_numbers l, h.0)) ∙ ap (λ z. numbers l ++ j ∷ insert (numbers r) z new) at ∙ ap (λ zs. numbers l ++ j ∷ zs) (sym (inserts r q new x w.within).listed) in
+            let same = insert_behind (numbers l) j (numbers r) place new (omega (arith, size_numbers l, h.0)) ∙ ap (λ z. numbers l ++ j ∷ insert (numbers r) z new) at ∙ ap (λ zs. numbers l ++ j ∷ zs) (sym (inserts r q new x w.within).listed) in
             two.kept l o.entry (put r q new x) v k (subst (Away k) same (away_inserted k new (numbers l ++ j ∷ numbers r) place off.0 off2))
             ∙ one.kept r x w k (off.0, a.2);
         same = two.same ∙ one.same;

@@ -1,5 +1,6 @@
 -- A new node is put below a root: on its left, and on its right.
 use Rattle.std.proofs.Common.{◌≡◌, ℕ, ◌-◌, ◌<◌, ◌≤◌, List, ◌∷◌, ◌++◌, length, get_or, Some, Option, sym, ap, ◌∙◌, subst, arith}
+use Rattle.std.proofs.lemmas.List.Edits.{insert-append_left}
 use Rattle.std.specs.List.{insert}
 use Rattle.std.proofs.ByRecursion.{All-weaker}
 use Rattle.indexes.specs.Laws.{Away, Apart}
@@ -10,7 +11,7 @@ use Rattle.avl_tree.specs.Nodes.{Sides, Sprout, Puts}
 use Rattle.avl_tree.specs.Tree.{Tree, node, numbers, size}
 use Rattle.avl_tree.specs.Turns.{put}
 use Rattle.avl_tree.proofs.Lists.{Disjoint, parts, away_parts, disjoint_sym, all_both}
-use Rattle.avl_tree.proofs.Puts.{inserts, insert_left, insert_right}
+use Rattle.avl_tree.proofs.Puts.{inserts, insert_behind}
 use Rattle.avl_tree.proofs.Sizes.{size_numbers}
 use Rattle.avl_tree.proofs.Turns.{swap_left, swap_right}
 use Rattle.avl_tree.proofs.Weighs.{Rooted, rooted, lefts, rights, sides_of}
@@ -71,7 +72,7 @@ module _ (ns : List Node) (link : Option ℕ) (j : ℕ) (n : Node) (is : link �
         let p = parts (numbers l) j (numbers r) u.apart in
         let q = away_parts new (numbers l) j (numbers r) u.off in
         let k = inserts l place new x low in
-        let whole = insert_left (numbers l) (j ∷ numbers r) place new (omega (arith, size_numbers l)) in
+        let whole = insert-append_left (numbers l) (j ∷ numbers r) place new (omega (arith, size_numbers l)) in
         swap_left ns ms n.left n.right (Some m) l (put l place new x) j o.entry r (new ∷ numbers l) (base t x s) (one.after l x v) (one.kept l x v) (q.1, p.off_first) (disjoint_more new (numbers r) (numbers l) q.2 (disjoint_sym (numbers l) (numbers r) p.across)) (subst Apart (whole ∙ ap (λ ks. ks ++ j ∷ numbers r) (sym k.listed)) (apart_put (node l j o.entry r) x u)) (omega (arith, k.sized, u.small))
 
     pub sides_right : (q : ℕ) → Puts ns ms n.right q new m → (t : Tree) (x : Entry) → (s : Sprout ns link place new t x) → size (root_of t x s).lower < place → q ≡ place - size (root_of t x s).lower - 1 → Sides ms n.left (Some m) (root_of t x s).lower j (root_of t x s).entry (put (root_of t x s).upper q new x)
@@ -85,5 +86,5 @@ module _ (ns : List Node) (link : Option ℕ) (j : ℕ) (n : Node) (is : link �
         let a = away_parts new (numbers l) j (numbers r) u.off in
         let k = inserts r q new x v.within in
         let same : place - length (numbers l) - 1 ≡ q = ap (λ z. place - z - 1) (sym (size_numbers l)) ∙ sym is in
-        let whole = insert_right (numbers l) j (numbers r) place new (omega (arith, size_numbers l, high)) ∙ ap (λ z. numbers l ++ j ∷ insert (numbers r) z new) same in
+        let whole = insert_behind (numbers l) j (numbers r) place new (omega (arith, size_numbers l, high)) ∙ ap (λ z. numbers l ++ j ∷ insert (numbers r) z new) same in
         swap_right ns ms n.left n.right (Some m) l j o.entry r (put r q new x) (new ∷ numbers r) (base t x s) (one.after r x v) (one.kept r x v) (a.1, p.off_second) (disjoint_more new (numbers l) (numbers r) a.0 p.across) (subst Apart (whole ∙ ap (λ ks. numbers l ++ j ∷ ks) (sym k.listed)) (apart_put (node l j o.entry r) x u)) (omega (arith, k.sized, u.small))

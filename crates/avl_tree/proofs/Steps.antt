@@ -1,5 +1,5 @@
 -- In-order lists around a root: what stands where, counts, places and one change.
-use Rattle.std.proofs.Common.{◌≡◌, ℕ, zero, suc, ◌+◌, ◌-◌, ◌<◌, ◌≤◌, Bool, true, false, cond, List, [], ◌∷◌, ◌++◌, length, take, Some, Option, sym, refl, ap, ◌∙◌, add-zero, arith}
+use Rattle.std.proofs.Common.{◌≡◌, ℕ, zero, suc, ◌+◌, ◌-◌, ◌<◌, Bool, true, false, cond, List, [], ◌∷◌, ◌++◌, length, take, Some, Option, sym, refl, ap, ◌∙◌, add-zero, arith}
 use Rattle.std.specs.List.{slice_get}
 use Rattle.indexes.specs.declared.entry.Entry.{Entry}
 use Rattle.indexes.specs.Changes.{at_place}
@@ -46,11 +46,6 @@ change_right f (x ∷ xs) y ys (suc i) past =
     ap (λ zs. x ∷ zs) (change_right f xs y ys i (omega arith) ∙ ap (λ k. xs ++ y ∷ at_place f ys k) e)
 
 -- the first entries
-pub take_left : {X : Type 0} (xs ys : List X) (i : ℕ) → i ≤ length xs → take i (xs ++ ys) ≡ take i xs
-take_left xs ys zero within = refl
-take_left [] ys (suc i) within = absurd (omega arith)
-take_left (x ∷ xs) ys (suc i) within = ap (λ zs. x ∷ zs) (take_left xs ys i (omega arith))
-
 pub take_right : {X : Type 0} (xs : List X) (y : X) (ys : List X) (i : ℕ) → length xs < i → take i (xs ++ y ∷ ys) ≡ xs ++ y ∷ take (i - length xs - 1) ys
 take_right [] y ys zero past = absurd (omega arith)
 take_right [] y ys (suc i) past = let e : i ≡ suc i - 0 - 1 = omega arith in ap (λ k. y ∷ take k ys) e
@@ -75,7 +70,7 @@ find_behind p xs y ys n m is =
 
 here : (b : Bool) (rest : ℕ → Option ℕ) → b ≡ true → cond b (hit 0 rest) (shifted 1 (rest 0)) ≡ Some 0
 here true rest is = refl
-here false rest is = let z : ◌≡◌ {A = ℕ} 0 1 = cc in absurd (omega arith)
+here false rest is = cc
 
 pub find_mid : (p : Entry → Bool) (xs : List Entry) (y : Entry) (ys : List Entry) (n : ℕ) → n ≡ count p xs → p y ≡ true → find p (xs ++ y ∷ ys) n ≡ Some (length xs)
 find_mid p xs y ys n is passes =

@@ -1,5 +1,6 @@
 -- A node tied over two sides holds their tree, and nothing else is changed.
-use Rattle.std.proofs.Common.{◌≡◌, ℕ, ◌<◌, List, ◌∷◌, ◌++◌, length, Some, None, Option, sym, refl, ap, ◌∙◌, subst, arith}
+use Rattle.std.proofs.Common.{◌≡◌, ℕ, ◌<◌, List, ◌∷◌, ◌++◌, length, Some, None, Option, sym, refl, ap, ◌∙◌, subst}
+use Rattle.std.proofs.lemmas.Option.{slice_get_within}
 use Rattle.std.specs.List.{slice_get}
 use Rattle.std.proofs.ByRecursion.{All-weaker}
 use Rattle.indexes.specs.Laws.{Away, Apart}
@@ -9,7 +10,7 @@ use Rattle.avl_tree.specs.declared.node.Weight.{Weight}
 use Rattle.avl_tree.specs.Nodes.{cell, altered, adopted, below, over, tied, Holds, Held, Sides, Kept, held_entries}
 use Rattle.avl_tree.specs.Tree.{Tree, leaf, node, numbers, weight, joined, top}
 use Rattle.avl_tree.proofs.Lists.{Disjoint, Parts, parts, away_parts, disjoint_sym}
-use Rattle.avl_tree.proofs.Cells.{nth_within, altered_same, altered_other, entries_altered, length_altered, holds_same}
+use Rattle.avl_tree.proofs.Cells.{altered_same, altered_other, entries_altered, length_altered, holds_same}
 
 -- the nodes of a tree, where one that is not among them is written
 off_altered : (f : Node → Node) (ns : List Node) (i : ℕ) (p : Option ℕ) (t : Tree) → Away i (numbers t) → Holds ns p t → Holds (altered f ns i) p t
@@ -47,12 +48,11 @@ entries_tied ns left j right w =
 pub link_within : (ns : List Node) (link : Option ℕ) (t : Tree) → Held ns link t → (i : ℕ) → link ≡ Some i → i < length ns
 link_within ns link leaf h i is =
     let z : None ≡ Some i = sym h.at ∙ is in
-    let n : ◌≡◌ {A = ℕ} 0 1 = cc in
-    absurd (omega arith)
+    cc
 link_within ns link (node l k e r) h i is =
     let s : Some k ≡ Some i = sym h.at ∙ is in
     let same : k ≡ i = cc in
-    subst (λ n. n < length ns) same (nth_within ns k (cell h.above l e r) h.holds.0)
+    subst (λ n. n < length ns) same (slice_get_within ns k (cell h.above l e r) h.holds.0)
 
 module _ (ns : List Node) (l : Tree) (j : ℕ) (e : Entry) (r : Tree) (s : Sides ns (top l) (top r) l j e r) where
   split : Parts (numbers l) j (numbers r)

@@ -1,5 +1,5 @@
 -- That the nodes are the cells of the tree is a proposition, so it can be taken out of its truncation.
-use Rattle.std.proofs.Common.{◌≡◌, ℕ, List, Some, None, Option, refl, arith}
+use Rattle.std.proofs.Common.{◌≡◌, ℕ, List, Some, None, Option, refl}
 use mathlib.Core.Logic.{∥∥₁_elim}
 use base.Stored.{Coded, Coded-set, coded_list, coded_via}
 use Rattle.std.specs.Option.{option_to_list}
@@ -9,8 +9,8 @@ use Rattle.avl_tree.specs.Shape.{Stored}
 
 list_inj : (x y : Option Node) → option_to_list x ≡ option_to_list y → x ≡ y
 list_inj None None e = refl
-list_inj None (Some n) e = let z : ◌≡◌ {A = ℕ} 0 1 = cc in absurd (omega arith)
-list_inj (Some m) None e = let z : ◌≡◌ {A = ℕ} 0 1 = cc in absurd (omega arith)
+list_inj None (Some n) e = cc
+list_inj (Some m) None e = cc
 list_inj (Some m) (Some n) e = cc
 
 links_coded : Coded (Option Node)

@@ -42,8 +42,7 @@ pub record Rooted (ns : List Node) (t : Tree) (i : ℕ) (n : Node) : Type 0 wher
 pub rooted : (ns : List Node) (link : Option ℕ) (t : Tree) → Held ns link t → (i : ℕ) (n : Node) → link ≡ Some i → n ≡ get_or ns i n → Rooted ns t i n
 rooted ns link leaf h i n is read =
     let z : None ≡ Some i = sym h.at ∙ is in
-    let no : ◌≡◌ {A = ℕ} 0 1 = cc in
-    absurd (omega arith)
+    cc
 rooted ns link (node l k e r) h i n is read =
     let s : Some k ≡ Some i = sym h.at ∙ is in
     let same : k ≡ i = cc in

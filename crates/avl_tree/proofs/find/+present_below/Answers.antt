@@ -1,4 +1,5 @@
-use Rattle.std.proofs.Common.{Bool, true, false, refl, ◌≡◌, ℕ, ◌-◌, ◌<◌, ◌∷◌, length, take, None, sym, ap, ◌∙◌, arith}
+use Rattle.std.proofs.Common.{Bool, true, false, refl, ◌≡◌, ◌-◌, ◌<◌, ◌∷◌, length, take, None, sym, ap, ◌∙◌, arith}
+use Rattle.std.proofs.lemmas.List.{take-append-le}
 use Rattle.std.specs.Int.{from_bool}
 use Rattle.indexes.specs.Entries.{is_present}
 use Rattle.indexes.specs.Questions.{bit, count}
@@ -7,7 +8,7 @@ use Rattle.avl_tree.specs.declared.node.Node.{Node}
 use Rattle.avl_tree.specs.declared.node.Weight.{Weight}
 use Rattle.avl_tree.specs.Tree.{Tree, leaf, node, top, entries, size}
 use Rattle.avl_tree.proofs.Sizes.{size_entries, present_entries}
-use Rattle.avl_tree.proofs.Steps.{take_left, count_right, count_take_none}
+use Rattle.avl_tree.proofs.Steps.{count_right, count_take_none}
 use Rattle.avl_tree.proofs.Weighs.{rooted, lefts, rights, falls_left, falls_right}
 use Rattle.avl_tree.proofs.Weighs.{node_at, read_at}
 use Rattle.avl_tree.proofs.find.+present_below.Goals as goal
@@ -29,7 +30,7 @@ pub returns-then-place-before : goal.returns-then-place-before
 returns-then-place-before t c u h =
     let o = rooted c.args.nodes.now c.args.link u h c.in-Some.j (node_at c.args.nodes.now c.in-Some.j) c.in-Some.is (read_at c.args.nodes.now c.in-Some.j) in
     let n = ap (λ (w : Weight). w.size) (c.weight_of-left.ensures o.lower (lefts o)) in
-    c.present_below.ensures o.lower (lefts o) ∙ sym (ap (λ v. count is_present (take c.args.place (entries v))) o.is ∙ ap (count is_present) (take_left (entries o.lower) (o.entry ∷ entries o.upper) c.args.place (omega (arith, n, size_entries o.lower, c.if-place-before.true))))
+    c.present_below.ensures o.lower (lefts o) ∙ sym (ap (λ v. count is_present (take c.args.place (entries v))) o.is ∙ ap (count is_present) (take-append-le c.args.place (entries o.lower) (o.entry ∷ entries o.upper) (omega (arith, n, size_entries o.lower, c.if-place-before.true))))
 
 pub present_below-requires-2 : goal.present_below-requires-2
 present_below-requires-2 t c =
@@ -49,7 +50,7 @@ returns-in_default t c u h = none u (sym c.in_default.is ∙ h.at)
   where
     none : (v : Tree) → None ≡ top v → 0 ≡ count is_present (take c.args.place (entries v))
     none leaf is = sym (count_take_none is_present c.args.place)
-    none (node l i e r) is = let z : ◌≡◌ {A = ℕ} 0 1 = cc in absurd (omega arith)
+    none (node l i e r) is = cc
 
 pub returns : goal.returns
 returns t c u h =

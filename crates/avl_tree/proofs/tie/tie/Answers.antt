@@ -1,10 +1,11 @@
 use Rattle.std.proofs.Common.{◌≡◌, ◌<◌, ◌∷◌, ◌++◌, length, Some, sym, ap, ◌∙◌, subst, arith, length-set}
+use Rattle.std.proofs.lemmas.Option.{slice_get_within}
 use Rattle.indexes.specs.declared.entry.Entry.{Entry}
 use Rattle.avl_tree.specs.declared.node.Node.{Node}
 use Rattle.avl_tree.specs.declared.node.Weight.{Weight}
 use Rattle.avl_tree.specs.Nodes.{held_entries, Sides, Held, Kept, Sane, over, tied, adopted}
 use Rattle.avl_tree.specs.Tree.{Tree, node, numbers, weight, joined}
-use Rattle.avl_tree.proofs.Cells.{nth_within, read_is, set_altered}
+use Rattle.avl_tree.proofs.Cells.{read_is, set_altered}
 use Rattle.avl_tree.proofs.Sizes.{sane}
 use Rattle.avl_tree.proofs.Ties.{link_within, length_adopted, entries_tied, tied_held, tied_kept}
 use Rattle.avl_tree.proofs.Weighs.{node_at, read_at}
@@ -38,7 +39,7 @@ returns c =
     let right = c.args.right in
     let w = c.join-weight.result in
     let n = (node_at c.args.nodes.now c.args.j) in
-    let within : j < length ns = nth_within ns j c.requires.3.old c.requires.3.at in
+    let within : j < length ns = slice_get_within ns j c.requires.3.old c.requires.3.at in
     let written = set_altered (over left right w) ns j n within (read_at c.args.nodes.now c.args.j) in
     let is : c.adopt-2.new.nodes ≡ tied ns left j right w = c.adopt-2.ensures ∙ ap (λ ms. adopted ms right (Some j)) (c.adopt.ensures ∙ ap (λ ms. adopted ms left (Some j)) written) in
     let weighs : (l : Tree) (e : Entry) (r : Tree) → Sides ns left right l j e r → w ≡ joined (weight l) e (weight r) =

@@ -1,6 +1,6 @@
 use Rattle.std.proofs.Common.{◌≡◌, ◌+◌, ◌≤◌, length, Some, None, vec_items, vec_len, sym, ap, ◌∙◌, arith, ltb-false, ltb-true}
 use Rattle.std.specs.List.{slice_get}
-use Rattle.std.proofs.lemmas.Option.{slice_get_read}
+use Rattle.std.proofs.lemmas.Option.{slice_get_read, slice_get_within}
 use Rattle.indexes.specs.declared.entry.Entry.{Entry}
 use Rattle.indexes.proofs.Places.{place_of_away}
 use Rattle.avl.specs.Avl.{avl_tree_of, avl_entries}
@@ -8,7 +8,7 @@ use Rattle.avl.proofs.Facts.{small_of, whole_at, named_at}
 use Rattle.avl_tree.specs.declared.node.Node.{Node}
 use Rattle.avl_tree.specs.declared.node.Weight.{Weight}
 use Rattle.avl_tree.specs.Tree.{node, size}
-use Rattle.avl_tree.proofs.Cells.{nth_within, read_is}
+use Rattle.avl_tree.proofs.Cells.{read_is}
 use Rattle.avl_tree.proofs.Names.{unlisted}
 use Rattle.avl_tree.proofs.Seeks.{located, place_seen}
 use Rattle.avl.proofs.index.position.AvlIndexPositionIndex.place_of.Goals as goal
@@ -22,7 +22,7 @@ returns-in_err-node c =
     let i = c.index-i.result.now in
     let leads : slice_get dir c.args.character ≡ Some i = slice_get_read dir (vec_len s.directory) c.args.character i s.directory.ok.0 (omega (arith, s.wide, c.ranges.character)) c.index-i.ensures in
     let past : length ns ≤ i = ltb-false i (length ns) (sym c.in_err-node.ensures.lookup.0) in
-    let away = unlisted ns dir None (avl_tree_of s) c.args.character i (whole_at s ns v.ensures.value).holds (named_at s ns v.ensures.value) leads (λ n at _. omega (arith, nth_within ns i n at, past)) in
+    let away = unlisted ns dir None (avl_tree_of s) c.args.character i (whole_at s ns v.ensures.value).holds (named_at s ns v.ensures.value) leads (λ n at _. omega (arith, slice_get_within ns i n at, past)) in
     record { answer = c.from_residual.ensures ∙ sym (place_of_away c.args.character (avl_entries s) away) }
 
 pub returns-then-node-character : goal.returns-then-node-character
@@ -51,7 +51,7 @@ place_above-requires c =
     let look = c.in_ok-node.ensures.lookup in
     let l = located v.result.now s.root (avl_tree_of s) c.index-i.result.now c.in_ok-node.node.now (whole_at s v.result.now v.ensures.value) (small_of s) (ltb-true _ _ (sym look.0)) look.1 in
     let n = ap (λ (w : Weight). w.size) (c.weight_of-before.ensures l.lower l.left_held) in
-    let within = nth_within (avl_entries s) (l.offset + size l.lower) l.entry l.stands in
+    let within = slice_get_within (avl_entries s) (l.offset + size l.lower) l.entry l.stands in
     (avl_tree_of s, node l.lower c.index-i.result.now l.entry l.upper, l.offset, l.climbs, omega (arith, n, within, s.within, s.small))
 
 pub returns : goal.returns
