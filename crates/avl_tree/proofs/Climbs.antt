@@ -13,6 +13,7 @@ use Rattle.avl_tree.proofs.Cells.{read_is}
 use Rattle.avl_tree.proofs.Lists.{parts, all_right}
 use Rattle.avl_tree.proofs.Sizes.{size_entries}
 use Rattle.avl_tree.proofs.Steps.{nth_left, nth_mid, nth_right}
+use Rattle.avl_tree.proofs.Weighs.{node_at, read_at}
 
 -- a subtree s at o below a node
 pub record Above (ns : List Node) (t s : Tree) (o : ℕ) : Type 0 where
@@ -113,38 +114,38 @@ climb_held ns i t s o c =
       | inr a ↦ record { above = Some a.number; at = sym c.at; holds = a.below }
     ]
 
-module _ (ns : List Node) (i : ℕ) (n : Node) (read : n ≡ get_or ns i n) where
+module _ (ns : List Node) (i : ℕ) where
   -- no parent: the whole tree
-  pub at_top : (t s : Tree) (o : ℕ) → Climbs ns i t s o → n.parent ≡ None → o ≡ 0
+  pub at_top : (t s : Tree) (o : ℕ) → Climbs ns i t s o → (node_at ns i).parent ≡ None → o ≡ 0
   at_top t s o c is =
       elim (up ns None t s o c.holds c.found) [
         | inl z ↦ z.1
         | inr a ↦
-            let p = held_cell ns (Some a.number) s i n a.below c.at read in
+            let p = held_cell ns (Some a.number) s i (node_at ns i) a.below c.at (read_at ns i) in
             cc
       ]
 
-  pub parent_of : (t s : Tree) (o j : ℕ) → Climbs ns i t s o → n.parent ≡ Some j → (a : Above ns t s o) × (a.number ≡ j)
+  pub parent_of : (t s : Tree) (o j : ℕ) → Climbs ns i t s o → (node_at ns i).parent ≡ Some j → (a : Above ns t s o) × (a.number ≡ j)
   parent_of t s o j c is =
       elim (up ns None t s o c.holds c.found) [
         | inl z ↦
-            let p = held_cell ns None s i n (subst (Holds ns None) z.0 c.holds) c.at read in
+            let p = held_cell ns None s i (node_at ns i) (subst (Holds ns None) z.0 c.holds) c.at (read_at ns i) in
             cc
         | inr a ↦
-            let p = held_cell ns (Some a.number) s i n a.below c.at read in
+            let p = held_cell ns (Some a.number) s i (node_at ns i) a.below c.at (read_at ns i) in
             let e : a.number ≡ j = cc in
             (a, e)
       ]
 
   -- the parent j, whose node was read
-  module _ (j : ℕ) (m : Node) (is : n.parent ≡ Some j) (again : m ≡ get_or ns j m) where
-    parent_cell : (t s : Tree) (o : ℕ) → (c : Climbs ns i t s o) → m ≡ cell (parent_of t s o j c is).0.parent (parent_of t s o j c is).0.lower (parent_of t s o j c is).0.entry (parent_of t s o j c is).0.upper
+  module _ (j : ℕ) (is : (node_at ns i).parent ≡ Some j) where
+    parent_cell : (t s : Tree) (o : ℕ) → (c : Climbs ns i t s o) → node_at ns j ≡ cell (parent_of t s o j c is).0.parent (parent_of t s o j c is).0.lower (parent_of t s o j c is).0.entry (parent_of t s o j c is).0.upper
     parent_cell t s o c =
         let a = (parent_of t s o j c is).0 in
         let e = (parent_of t s o j c is).1 in
-        read_is ns j (cell a.parent a.lower a.entry a.upper) m (subst (λ k. slice_get ns k ≡ Some (cell a.parent a.lower a.entry a.upper)) e a.holds.0) again
+        read_is ns j (cell a.parent a.lower a.entry a.upper) (node_at ns j) (subst (λ k. slice_get ns k ≡ Some (cell a.parent a.lower a.entry a.upper)) e a.holds.0) (read_at ns j)
 
-    pub left_held : (t s : Tree) (o : ℕ) → (c : Climbs ns i t s o) → Held ns m.left (parent_of t s o j c is).0.lower
+    pub left_held : (t s : Tree) (o : ℕ) → (c : Climbs ns i t s o) → Held ns (node_at ns j).left (parent_of t s o j c is).0.lower
     left_held t s o c =
         let a = (parent_of t s o j c is).0 in
         record { above = Some a.number; at = ap (λ (d : Node). d.left) (parent_cell t s o c); holds = a.holds.1 }
@@ -154,22 +155,22 @@ module _ (ns : List Node) (i : ℕ) (n : Node) (read : n ≡ get_or ns i n) wher
         let a = parent_of t s o j c is in
         record { holds = c.holds; found = a.0.found; at = ap Some a.1; apart = c.apart; small = c.small }
 
-    pub from_right : (t s : Tree) (o : ℕ) → (c : Climbs ns i t s o) → option_eq eqb m.right (Some i) ≡ true → o ≡ (parent_of t s o j c is).0.offset + size (parent_of t s o j c is).0.lower + 1
+    pub from_right : (t s : Tree) (o : ℕ) → (c : Climbs ns i t s o) → option_eq eqb (node_at ns j).right (Some i) ≡ true → o ≡ (parent_of t s o j c is).0.offset + size (parent_of t s o j c is).0.lower + 1
     from_right t s o c test =
         let a = (parent_of t s o j c is).0 in
-        let r : top a.upper ≡ Some i = sym (ap (λ (d : Node). d.right) (parent_cell t s o c)) ∙ at_link m.right i test in
+        let r : top a.upper ≡ Some i = sym (ap (λ (d : Node). d.right) (parent_cell t s o c)) ∙ at_link (node_at ns j).right i test in
         elim a.side [
           | inl z ↦ absurd (in_both a.lower a.number i a.upper (found_apart t (node a.lower a.number a.entry a.upper) a.offset a.found c.apart) (ap top (sym z.0) ∙ c.at) r)
           | inr z ↦ z.1
         ]
 
-    pub from_left : (t s : Tree) (o : ℕ) → (c : Climbs ns i t s o) → option_eq eqb m.right (Some i) ≡ false → o ≡ (parent_of t s o j c is).0.offset
+    pub from_left : (t s : Tree) (o : ℕ) → (c : Climbs ns i t s o) → option_eq eqb (node_at ns j).right (Some i) ≡ false → o ≡ (parent_of t s o j c is).0.offset
     from_left t s o c test =
         let a = (parent_of t s o j c is).0 in
         elim a.side [
           | inl z ↦ z.1
           | inr z ↦
-              let r = link_at m.right i (ap (λ (d : Node). d.right) (parent_cell t s o c) ∙ ap top (sym z.0) ∙ c.at) in
+              let r = link_at (node_at ns j).right i (ap (λ (d : Node). d.right) (parent_cell t s o c) ∙ ap top (sym z.0) ∙ c.at) in
               cc
         ]
 

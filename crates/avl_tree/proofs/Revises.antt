@@ -1,5 +1,5 @@
 -- A revision of a tree: what it does to the in-order lists and the heights, and how nodes hold it.
-use Rattle.std.proofs.Common.{◌≡◌, ℕ, zero, suc, ◌+◌, ◌-◌, ◌<◌, max, Bool, true, false, cond, eqb, ltb, List, [], ◌∷◌, ◌++◌, get_or, Some, Option, sym, refl, ap, ◌∙◌, subst, arith, ltb-false, ltb-true, le-ltb, lt-ltb, eq-eqb, ne_eqb, eqb-true}
+use Rattle.std.proofs.Common.{◌≡◌, ℕ, zero, suc, ◌+◌, ◌-◌, ◌<◌, max, Bool, true, false, cond, eqb, ltb, List, [], ◌∷◌, ◌++◌, Some, Option, sym, refl, ap, ◌∙◌, subst, arith, ltb-false, ltb-true, le-ltb, lt-ltb, eq-eqb, ne_eqb, eqb-true}
 use borrow.Author.Tests.{eqb-false}
 use Rattle.std.proofs.lemmas.Bool.{cond-true, cond-false}
 use Rattle.indexes.specs.Changes.{at_place}
@@ -15,7 +15,7 @@ use Rattle.avl_tree.proofs.Cells.{altered_same, altered_other, held_kept}
 use Rattle.avl_tree.proofs.Sizes.{size_entries}
 use Rattle.avl_tree.proofs.Steps.{change_left, change_mid, change_right}
 use Rattle.avl_tree.proofs.Turns.{swap_left, swap_right}
-use Rattle.avl_tree.proofs.Weighs.{Rooted, rooted, lefts, rights, sides_of}
+use Rattle.avl_tree.proofs.Weighs.{Rooted, opened, lefts, rights, sides_of, node_at}
 
 pub record Revised (f : Entry → Entry) (t : Tree) (place : ℕ) (u : Tree) : Type 0 where
   pub listed : numbers u ≡ numbers t
@@ -74,19 +74,19 @@ characters_altered f keeps [] i = refl
 characters_altered f keeps (n ∷ ns) zero = ap (λ c. c ∷ characters (held_entries ns)) (keeps n)
 characters_altered f keeps (n ∷ ns) (suc i) = ap (λ cs. n.entry.character ∷ cs) (characters_altered f keeps ns i)
 
-module _ (f : Entry → Entry) (ns : List Node) (link : Option ℕ) (j : ℕ) (n : Node) (is : link ≡ Some j) (read : n ≡ get_or ns j n) where
-  pub root : (t : Tree) → Stood ns link t → Rooted ns t j n
-  root t s = rooted ns link t s.held j n is read
+module _ (f : Entry → Entry) (ns : List Node) (link : Option ℕ) (j : ℕ) (is : link ≡ Some j) where
+  pub root : (t : Tree) → Stood ns link t → Rooted ns t j (node_at ns j)
+  root t s = opened s.held is
 
-  base : (t : Tree) → (s : Stood ns link t) → Sides ns n.left n.right (root t s).lower j (root t s).entry (root t s).upper
+  base : (t : Tree) → (s : Stood ns link t) → Sides ns (node_at ns j).left (node_at ns j).right (root t s).lower j (root t s).entry (root t s).upper
   base t s = sides_of (root t s) s.apart s.small
 
-  pub stood_left : (t : Tree) → (s : Stood ns link t) → Stood ns n.left (root t s).lower
+  pub stood_left : (t : Tree) → (s : Stood ns link t) → Stood ns (node_at ns j).left (root t s).lower
   stood_left t s =
       let o = root t s in
       record { held = lefts o; apart = (parts (numbers o.lower) j (numbers o.upper) (base t s).apart).first; small = omega (arith, s.small, ap size o.is) }
 
-  pub stood_right : (t : Tree) → (s : Stood ns link t) → Stood ns n.right (root t s).upper
+  pub stood_right : (t : Tree) → (s : Stood ns link t) → Stood ns (node_at ns j).right (root t s).upper
   stood_right t s =
       let o = root t s in
       record { held = rights o; apart = (parts (numbers o.lower) j (numbers o.upper) (base t s).apart).second; small = omega (arith, s.small, ap size o.is) }
@@ -97,7 +97,7 @@ module _ (f : Entry → Entry) (ns : List Node) (link : Option ℕ) (j : ℕ) (n
       subst (Held ks link) (sym same) record { above = h.above; at = is; holds = h.holds }
 
   module _ (ms : List Node) (place : ℕ) where
-    sides_left : Revises f ns ms n.left place → (t : Tree) → (s : Stood ns link t) → Sides ms n.left n.right (revised f (root t s).lower place) j (root t s).entry (root t s).upper
+    sides_left : Revises f ns ms (node_at ns j).left place → (t : Tree) → (s : Stood ns link t) → Sides ms (node_at ns j).left (node_at ns j).right (revised f (root t s).lower place) j (root t s).entry (root t s).upper
     sides_left one t s =
         let o = root t s in
         let l = o.lower in
@@ -105,14 +105,14 @@ module _ (f : Entry → Entry) (ns : List Node) (link : Option ℕ) (j : ℕ) (n
         let b = base t s in
         let p = parts (numbers l) j (numbers r) b.apart in
         let k = revising f l place in
-        swap_left ns ms n.left n.right n.left l (revised f l place) j o.entry r (numbers l) b (one.after l (stood_left t s)) (one.kept l (stood_left t s)) p.off_first (disjoint_sym (numbers l) (numbers r) p.across) (subst (λ is. Apart (is ++ j ∷ numbers r)) (sym k.listed) b.apart) (omega (arith, k.sized, b.small))
+        swap_left ns ms (node_at ns j).left (node_at ns j).right (node_at ns j).left l (revised f l place) j o.entry r (numbers l) b (one.after l (stood_left t s)) (one.kept l (stood_left t s)) p.off_first (disjoint_sym (numbers l) (numbers r) p.across) (subst (λ is. Apart (is ++ j ∷ numbers r)) (sym k.listed) b.apart) (omega (arith, k.sized, b.small))
 
-    pub ready_revised_left : Revises f ns ms n.left place → (t : Tree) → Stood ns link t → Ready ms n.left j n.right
+    pub ready_revised_left : Revises f ns ms (node_at ns j).left place → (t : Tree) → Stood ns link t → Ready ms (node_at ns j).left j (node_at ns j).right
     ready_revised_left one t s =
         let o = root t s in
         (revised f o.lower place, o.entry, o.upper, sides_left one t s)
 
-    pub revised_left : (ks : List Node) (i : ℕ) → ((l : Tree) → Held ns n.left l → place < size l) → Revises f ns ms n.left place → Makes node ms ks n.left j n.right i → Revises f ns ks link place
+    pub revised_left : (ks : List Node) (i : ℕ) → ((l : Tree) → Held ns (node_at ns j).left l → place < size l) → Revises f ns ms (node_at ns j).left place → Makes node ms ks (node_at ns j).left j (node_at ns j).right i → Revises f ns ks link place
     revised_left ks i test one two =
         record {
           after = λ t s.
@@ -131,7 +131,7 @@ module _ (f : Entry → Entry) (ns : List Node) (link : Option ℕ) (j : ℕ) (n
           same = ap characters two.same ∙ one.same;
         }
 
-    sides_right : (q : ℕ) → Revises f ns ms n.right q → (t : Tree) → (s : Stood ns link t) → Sides ms n.left n.right (root t s).lower j (root t s).entry (revised f (root t s).upper q)
+    sides_right : (q : ℕ) → Revises f ns ms (node_at ns j).right q → (t : Tree) → (s : Stood ns link t) → Sides ms (node_at ns j).left (node_at ns j).right (root t s).lower j (root t s).entry (revised f (root t s).upper q)
     sides_right q one t s =
         let o = root t s in
         let l = o.lower in
@@ -139,14 +139,14 @@ module _ (f : Entry → Entry) (ns : List Node) (link : Option ℕ) (j : ℕ) (n
         let b = base t s in
         let p = parts (numbers l) j (numbers r) b.apart in
         let k = revising f r q in
-        swap_right ns ms n.left n.right n.right l j o.entry r (revised f r q) (numbers r) b (one.after r (stood_right t s)) (one.kept r (stood_right t s)) p.off_second p.across (subst (λ is. Apart (numbers l ++ j ∷ is)) (sym k.listed) b.apart) (omega (arith, k.sized, b.small))
+        swap_right ns ms (node_at ns j).left (node_at ns j).right (node_at ns j).right l j o.entry r (revised f r q) (numbers r) b (one.after r (stood_right t s)) (one.kept r (stood_right t s)) p.off_second p.across (subst (λ is. Apart (numbers l ++ j ∷ is)) (sym k.listed) b.apart) (omega (arith, k.sized, b.small))
 
-    pub ready_revised_right : (q : ℕ) → Revises f ns ms n.right q → (t : Tree) → Stood ns link t → Ready ms n.left j n.right
+    pub ready_revised_right : (q : ℕ) → Revises f ns ms (node_at ns j).right q → (t : Tree) → Stood ns link t → Ready ms (node_at ns j).left j (node_at ns j).right
     ready_revised_right q one t s =
         let o = root t s in
         (o.lower, o.entry, revised f o.upper q, sides_right q one t s)
 
-    pub revised_right : (ks : List Node) (i q : ℕ) → ((l : Tree) → Held ns n.left l → (size l < place) × (q ≡ place - size l - 1)) → Revises f ns ms n.right q → Makes node ms ks n.left j n.right i → Revises f ns ks link place
+    pub revised_right : (ks : List Node) (i q : ℕ) → ((l : Tree) → Held ns (node_at ns j).left l → (size l < place) × (q ≡ place - size l - 1)) → Revises f ns ms (node_at ns j).right q → Makes node ms ks (node_at ns j).left j (node_at ns j).right i → Revises f ns ks link place
     revised_right ks i q test one two =
         record {
           after = λ t s.
@@ -171,7 +171,7 @@ module _ (f : Entry → Entry) (ns : List Node) (link : Option ℕ) (j : ℕ) (n
   kept_here : Kept ns (altered (retitled f) ns j) (j ∷ [])
   kept_here k off = altered_other (retitled f) ns j k (λ e. off.0 (sym e))
 
-  sides_here : (t : Tree) → (s : Stood ns link t) → Sides (altered (retitled f) ns j) n.left n.right (root t s).lower j (f (root t s).entry) (root t s).upper
+  sides_here : (t : Tree) → (s : Stood ns link t) → Sides (altered (retitled f) ns j) (node_at ns j).left (node_at ns j).right (root t s).lower j (f (root t s).entry) (root t s).upper
   sides_here t s =
       let o = root t s in
       let l = o.lower in
@@ -180,8 +180,8 @@ module _ (f : Entry → Entry) (ns : List Node) (link : Option ℕ) (j : ℕ) (n
       let p = parts (numbers l) j (numbers r) b.apart in
       let ms = altered (retitled f) ns j in
       record {
-        lower = held_kept ns ms n.left l (j ∷ []) kept_here (disjoint_sym (j ∷ []) (numbers l) (p.off_first, tt)) b.lower;
-        upper = held_kept ns ms n.right r (j ∷ []) kept_here (disjoint_sym (j ∷ []) (numbers r) (p.off_second, tt)) b.upper;
+        lower = held_kept ns ms (node_at ns j).left l (j ∷ []) kept_here (disjoint_sym (j ∷ []) (numbers l) (p.off_first, tt)) b.lower;
+        upper = held_kept ns ms (node_at ns j).right r (j ∷ []) kept_here (disjoint_sym (j ∷ []) (numbers r) (p.off_second, tt)) b.upper;
         old = retitled f b.old;
         at = altered_same (retitled f) ns j b.old b.at;
         entry_is = ap f b.entry_is;
@@ -189,10 +189,10 @@ module _ (f : Entry → Entry) (ns : List Node) (link : Option ℕ) (j : ℕ) (n
         small = b.small;
       }
 
-  pub ready_here : (t : Tree) → Stood ns link t → Ready (altered (retitled f) ns j) n.left j n.right
+  pub ready_here : (t : Tree) → Stood ns link t → Ready (altered (retitled f) ns j) (node_at ns j).left j (node_at ns j).right
   ready_here t s = let o = root t s in (o.lower, f o.entry, o.upper, sides_here t s)
 
-  pub revised_here : ((e : Entry) → (f e).character ≡ e.character) → (ks : List Node) (i place : ℕ) → ((l : Tree) → Held ns n.left l → place ≡ size l) → Makes node (altered (retitled f) ns j) ks n.left j n.right i → Revises f ns ks link place
+  pub revised_here : ((e : Entry) → (f e).character ≡ e.character) → (ks : List Node) (i place : ℕ) → ((l : Tree) → Held ns (node_at ns j).left l → place ≡ size l) → Makes node (altered (retitled f) ns j) ks (node_at ns j).left j (node_at ns j).right i → Revises f ns ks link place
   revised_here keeps ks i place test two =
       record {
         after = λ t s.

@@ -9,7 +9,7 @@ use Rattle.avl_tree.specs.Tree.{Tree, node, numbers, size, top}
 use Rattle.avl_tree.proofs.Lists.{Disjoint, parts, away_parts, all_left, all_right, disjoint_sym}
 use Rattle.avl_tree.specs.Turns.{turn_right, turn_left}
 use Rattle.avl_tree.proofs.Cells.{held_kept}
-use Rattle.avl_tree.proofs.Weighs.{rooted}
+use Rattle.avl_tree.proofs.Weighs.{rooted, node_at, read_at}
 
 -- other sides at the same node, where nothing but `is` has changed
 pub swap_left : (ns ms : List Node) (left right link : Option ℕ) (l m : Tree) (j : ℕ) (e : Entry) (r : Tree) (is : List ℕ) → Sides ns left right l j e r → Held ms link m → Kept ns ms is → Away j is → Disjoint (numbers r) is → Apart (numbers m ++ j ∷ numbers r) → size m + size r < 65536 → Sides ms link right m j e r
@@ -182,63 +182,63 @@ open_right ns left right l j e r i n is read s =
     }
 
 -- the left root comes up
-module _ (ns : List Node) (left : Option ℕ) (j : ℕ) (right : Option ℕ) (i : ℕ) (n : Node) (is : left ≡ Some i) (read : n ≡ get_or ns i n) where
-  pub ready_right : Ready ns left j right → Ready ns n.right j right
+module _ (ns : List Node) (left : Option ℕ) (j : ℕ) (right : Option ℕ) (i : ℕ) (is : left ≡ Some i) where
+  pub ready_right : Ready ns left j right → Ready ns (node_at ns i).right j right
   ready_right p =
-      let o = open_left ns left right p.0 j p.1 p.2 i n is read p.3 in
-      (o.upper, p.1, p.2, right_first ns left right o.lower i o.entry o.upper j p.1 p.2 o.sides n.right o.rights)
+      let o = open_left ns left right p.0 j p.1 p.2 i (node_at ns i) is (read_at ns i) p.3 in
+      (o.upper, p.1, p.2, right_first ns left right o.lower i o.entry o.upper j p.1 p.2 o.sides (node_at ns i).right o.rights)
 
-  pub ready_right_2 : (ms : List Node) (low : ℕ) → Makes node ns ms n.right j right low → Ready ns left j right → Ready ms n.left i (Some low)
+  pub ready_right_2 : (ms : List Node) (low : ℕ) → Makes node ns ms (node_at ns i).right j right low → Ready ns left j right → Ready ms (node_at ns i).left i (Some low)
   ready_right_2 ms low m p =
       let e = p.1 in
       let r = p.2 in
-      let o = open_left ns left right p.0 j e r i n is read p.3 in
-      let f = right_first ns left right o.lower i o.entry o.upper j e r o.sides n.right o.rights in
-      (o.lower, o.entry, node o.upper j e r, right_second ns left right o.lower i o.entry o.upper j e r o.sides ms n.left (Some low) o.lefts (m.kept o.upper e r f) (m.after o.upper e r f))
+      let o = open_left ns left right p.0 j e r i (node_at ns i) is (read_at ns i) p.3 in
+      let f = right_first ns left right o.lower i o.entry o.upper j e r o.sides (node_at ns i).right o.rights in
+      (o.lower, o.entry, node o.upper j e r, right_second ns left right o.lower i o.entry o.upper j e r o.sides ms (node_at ns i).left (Some low) o.lefts (m.kept o.upper e r f) (m.after o.upper e r f))
 
-  pub turned_right : (ms ks : List Node) (low t : ℕ) → Makes node ns ms n.right j right low → Makes node ms ks n.left i (Some low) t → Makes turn_right ns ks left j right t
+  pub turned_right : (ms ks : List Node) (low t : ℕ) → Makes node ns ms (node_at ns i).right j right low → Makes node ms ks (node_at ns i).left i (Some low) t → Makes turn_right ns ks left j right t
   turned_right ms ks low t one two =
       record {
         after = λ l e r s.
-            let o = open_left ns left right l j e r i n is read s in
-            let f = right_first ns left right o.lower i o.entry o.upper j e r o.sides n.right o.rights in
-            let g = right_second ns left right o.lower i o.entry o.upper j e r o.sides ms n.left (Some low) o.lefts (one.kept o.upper e r f) (one.after o.upper e r f) in
+            let o = open_left ns left right l j e r i (node_at ns i) is (read_at ns i) s in
+            let f = right_first ns left right o.lower i o.entry o.upper j e r o.sides (node_at ns i).right o.rights in
+            let g = right_second ns left right o.lower i o.entry o.upper j e r o.sides ms (node_at ns i).left (Some low) o.lefts (one.kept o.upper e r f) (one.after o.upper e r f) in
             subst (λ u. Held ks (Some t) (turn_right u j e r)) (sym o.is) (two.after o.lower o.entry (node o.upper j e r) g);
         kept = λ l e r s.
-            let o = open_left ns left right l j e r i n is read s in
-            let f = right_first ns left right o.lower i o.entry o.upper j e r o.sides n.right o.rights in
-            let g = right_second ns left right o.lower i o.entry o.upper j e r o.sides ms n.left (Some low) o.lefts (one.kept o.upper e r f) (one.after o.upper e r f) in
+            let o = open_left ns left right l j e r i (node_at ns i) is (read_at ns i) s in
+            let f = right_first ns left right o.lower i o.entry o.upper j e r o.sides (node_at ns i).right o.rights in
+            let g = right_second ns left right o.lower i o.entry o.upper j e r o.sides ms (node_at ns i).left (Some low) o.lefts (one.kept o.upper e r f) (one.after o.upper e r f) in
             subst (λ u. Kept ns ks (numbers u ++ j ∷ numbers r)) (sym o.is) (right_kept ns left right o.lower i o.entry o.upper j e r o.sides ms ks (one.kept o.upper e r f) (two.kept o.lower o.entry (node o.upper j e r) g));
         same = two.same ∙ one.same;
       }
 
 -- the right root comes up
-module _ (ns : List Node) (left : Option ℕ) (j : ℕ) (right : Option ℕ) (i : ℕ) (n : Node) (is : right ≡ Some i) (read : n ≡ get_or ns i n) where
-  pub ready_left : Ready ns left j right → Ready ns left j n.left
+module _ (ns : List Node) (left : Option ℕ) (j : ℕ) (right : Option ℕ) (i : ℕ) (is : right ≡ Some i) where
+  pub ready_left : Ready ns left j right → Ready ns left j (node_at ns i).left
   ready_left p =
-      let o = open_right ns left right p.0 j p.1 p.2 i n is read p.3 in
-      (p.0, p.1, o.lower, left_first ns left right p.0 j p.1 o.lower i o.entry o.upper o.sides n.left o.lefts)
+      let o = open_right ns left right p.0 j p.1 p.2 i (node_at ns i) is (read_at ns i) p.3 in
+      (p.0, p.1, o.lower, left_first ns left right p.0 j p.1 o.lower i o.entry o.upper o.sides (node_at ns i).left o.lefts)
 
-  pub ready_left_2 : (ms : List Node) (low : ℕ) → Makes node ns ms left j n.left low → Ready ns left j right → Ready ms (Some low) i n.right
+  pub ready_left_2 : (ms : List Node) (low : ℕ) → Makes node ns ms left j (node_at ns i).left low → Ready ns left j right → Ready ms (Some low) i (node_at ns i).right
   ready_left_2 ms low m p =
       let l = p.0 in
       let e = p.1 in
-      let o = open_right ns left right l j e p.2 i n is read p.3 in
-      let f = left_first ns left right l j e o.lower i o.entry o.upper o.sides n.left o.lefts in
-      (node l j e o.lower, o.entry, o.upper, left_second ns left right l j e o.lower i o.entry o.upper o.sides ms n.right (Some low) o.rights (m.kept l e o.lower f) (m.after l e o.lower f))
+      let o = open_right ns left right l j e p.2 i (node_at ns i) is (read_at ns i) p.3 in
+      let f = left_first ns left right l j e o.lower i o.entry o.upper o.sides (node_at ns i).left o.lefts in
+      (node l j e o.lower, o.entry, o.upper, left_second ns left right l j e o.lower i o.entry o.upper o.sides ms (node_at ns i).right (Some low) o.rights (m.kept l e o.lower f) (m.after l e o.lower f))
 
-  pub turned_left : (ms ks : List Node) (low t : ℕ) → Makes node ns ms left j n.left low → Makes node ms ks (Some low) i n.right t → Makes turn_left ns ks left j right t
+  pub turned_left : (ms ks : List Node) (low t : ℕ) → Makes node ns ms left j (node_at ns i).left low → Makes node ms ks (Some low) i (node_at ns i).right t → Makes turn_left ns ks left j right t
   turned_left ms ks low t one two =
       record {
         after = λ l e r s.
-            let o = open_right ns left right l j e r i n is read s in
-            let f = left_first ns left right l j e o.lower i o.entry o.upper o.sides n.left o.lefts in
-            let g = left_second ns left right l j e o.lower i o.entry o.upper o.sides ms n.right (Some low) o.rights (one.kept l e o.lower f) (one.after l e o.lower f) in
+            let o = open_right ns left right l j e r i (node_at ns i) is (read_at ns i) s in
+            let f = left_first ns left right l j e o.lower i o.entry o.upper o.sides (node_at ns i).left o.lefts in
+            let g = left_second ns left right l j e o.lower i o.entry o.upper o.sides ms (node_at ns i).right (Some low) o.rights (one.kept l e o.lower f) (one.after l e o.lower f) in
             subst (λ u. Held ks (Some t) (turn_left l j e u)) (sym o.is) (two.after (node l j e o.lower) o.entry o.upper g);
         kept = λ l e r s.
-            let o = open_right ns left right l j e r i n is read s in
-            let f = left_first ns left right l j e o.lower i o.entry o.upper o.sides n.left o.lefts in
-            let g = left_second ns left right l j e o.lower i o.entry o.upper o.sides ms n.right (Some low) o.rights (one.kept l e o.lower f) (one.after l e o.lower f) in
+            let o = open_right ns left right l j e r i (node_at ns i) is (read_at ns i) s in
+            let f = left_first ns left right l j e o.lower i o.entry o.upper o.sides (node_at ns i).left o.lefts in
+            let g = left_second ns left right l j e o.lower i o.entry o.upper o.sides ms (node_at ns i).right (Some low) o.rights (one.kept l e o.lower f) (one.after l e o.lower f) in
             subst (λ u. Kept ns ks (numbers l ++ j ∷ numbers u)) (sym o.is) (left_kept ns left right l j e o.lower i o.entry o.upper o.sides ms ks (one.kept l e o.lower f) (two.kept (node l j e o.lower) o.entry o.upper g));
         same = two.same ∙ one.same;
       }

@@ -56,6 +56,10 @@ rooted ns link (node l k e r) h i n is read =
       holds = subst (λ m. Holds ns h.above (node l m e r)) same h.holds;
     }
 
+-- the same of the node that the code reads
+pub opened : {ns : List Node} {link : Option ℕ} {t : Tree} {i : ℕ} → Held ns link t → link ≡ Some i → Rooted ns t i (node_at ns i)
+opened {ns = ns} {link = link} {t = t} {i = i} h is = rooted ns link t h i (node_at ns i) is (read_at ns i)
+
 pub weight_read : (ns : List Node) (link : Option ℕ) (t : Tree) → Held ns link t → (i : ℕ) (n : Node) → link ≡ Some i → n ≡ get_or ns i n → n.weight ≡ weight t
 weight_read ns link t h i n is read =
     let r = rooted ns link t h i n is read in
@@ -94,10 +98,10 @@ sides_of o apart small =
     }
 
 -- what is stored falls on the way down
-pub falls_left : (ns : List Node) (link : Option ℕ) (t : Tree) (i : ℕ) (n : Node) → Held ns link t → (o : Rooted ns t i n) → load ns n.left < load ns link
-falls_left ns link t i n h o =
+pub falls_left : {ns : List Node} {link : Option ℕ} {t : Tree} {i : ℕ} {n : Node} → Held ns link t → (o : Rooted ns t i n) → load ns n.left < load ns link
+falls_left {ns = ns} {link = link} {t = t} {n = n} h o =
     omega (arith, load_is ns link t h, load_is ns n.left o.lower (lefts o), ap size o.is)
 
-pub falls_right : (ns : List Node) (link : Option ℕ) (t : Tree) (i : ℕ) (n : Node) → Held ns link t → (o : Rooted ns t i n) → load ns n.right < load ns link
-falls_right ns link t i n h o =
+pub falls_right : {ns : List Node} {link : Option ℕ} {t : Tree} {i : ℕ} {n : Node} → Held ns link t → (o : Rooted ns t i n) → load ns n.right < load ns link
+falls_right {ns = ns} {link = link} {t = t} {n = n} h o =
     omega (arith, load_is ns link t h, load_is ns n.right o.upper (rights o), ap size o.is)

@@ -2,11 +2,6 @@ use Rattle.std.proofs.Common.{◌-◌, ◌/◌, arith}
 use Rattle.avl_tree.proofs.Builds.{ready_build, built, same_length}
 use Rattle.avl_tree.proofs.build.+build.Goals as goal
 
-pub build-right-requires : goal.build-right-requires
-build-right-requires t c =
-    let long = same_length c.args.nodes.now c.build-left.new.nodes c.build-left.ensures.same in
-    (omega (arith, c.decreases), (omega (arith, long, c.requires.within), omega (arith, long, c.requires.small)))
-
 pub tie-requires : goal.tie-requires
 tie-requires t c =
     let half = c.args.count / 2 in

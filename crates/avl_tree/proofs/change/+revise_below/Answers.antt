@@ -19,19 +19,17 @@ keeps (Prepared k) e = refl
 keeps (Effect f) e = refl
 
 pub weight_of-before-requires : goal.weight_of-before-requires
-weight_of-before-requires t c = let o = root (applied c.args.change) c.args.nodes.now c.args.link c.in-Some.j (node_at c.args.nodes.now c.in-Some.j) c.in-Some.is (read_at c.args.nodes.now c.in-Some.j) c.requires.0 c.requires.1 in (o.lower, lefts o)
+weight_of-before-requires t c = let o = root (applied c.args.change) c.args.nodes.now c.args.link c.in-Some.j c.in-Some.is c.requires.0 c.requires.1 in (o.lower, lefts o)
 
 pub revise_below-requires : goal.revise_below-requires
 revise_below-requires t c =
-    let o = root (applied c.args.change) c.args.nodes.now c.args.link c.in-Some.j (node_at c.args.nodes.now c.in-Some.j) c.in-Some.is (read_at c.args.nodes.now c.in-Some.j) c.requires.0 c.requires.1 in
-    let fall = falls_left c.args.nodes.now c.args.link c.requires.0 c.in-Some.j (node_at c.args.nodes.now c.in-Some.j) c.requires.1.held o in
-    (omega (arith, fall, c.decreases), (o.lower, stood_left (applied c.args.change) c.args.nodes.now c.args.link c.in-Some.j (node_at c.args.nodes.now c.in-Some.j) c.in-Some.is (read_at c.args.nodes.now c.in-Some.j) c.requires.0 c.requires.1))
+    let o = root (applied c.args.change) c.args.nodes.now c.args.link c.in-Some.j c.in-Some.is c.requires.0 c.requires.1 in
+    (omega (arith, falls_left c.requires.1.held o, c.decreases), (o.lower, stood_left (applied c.args.change) c.args.nodes.now c.args.link c.in-Some.j c.in-Some.is c.requires.0 c.requires.1))
 
 pub revise_below-requires-else-place-before-2 : goal.revise_below-requires-else-place-before-2
 revise_below-requires-else-place-before-2 t c =
-    let o = root (applied c.args.change) c.args.nodes.now c.args.link c.in-Some.j (node_at c.args.nodes.now c.in-Some.j) c.in-Some.is (read_at c.args.nodes.now c.in-Some.j) c.requires.0 c.requires.1 in
-    let fall = falls_right c.args.nodes.now c.args.link c.requires.0 c.in-Some.j (node_at c.args.nodes.now c.in-Some.j) c.requires.1.held o in
-    (omega (arith, fall, c.decreases), (o.upper, stood_right (applied c.args.change) c.args.nodes.now c.args.link c.in-Some.j (node_at c.args.nodes.now c.in-Some.j) c.in-Some.is (read_at c.args.nodes.now c.in-Some.j) c.requires.0 c.requires.1))
+    let o = root (applied c.args.change) c.args.nodes.now c.args.link c.in-Some.j c.in-Some.is c.requires.0 c.requires.1 in
+    (omega (arith, falls_right c.requires.1.held o, c.decreases), (o.upper, stood_right (applied c.args.change) c.args.nodes.now c.args.link c.in-Some.j c.in-Some.is c.requires.0 c.requires.1))
 
 pub tie-requires : goal.tie-requires
 tie-requires t c =
@@ -44,13 +42,13 @@ tie-requires t c =
     let read = read_at ns j in
     elim c.if-place-before.branch [
       | then-place-before w ↦
-          subst (λ ms. Ready ms n.left j n.right) (sym w.nodes-is) (ready_revised_left f ns c.args.link j n c.in-Some.is read w.revise_below.new.nodes c.args.place w.revise_below.ensures u s)
+          subst (λ ms. Ready ms n.left j n.right) (sym w.nodes-is) (ready_revised_left f ns c.args.link j c.in-Some.is w.revise_below.new.nodes c.args.place w.revise_below.ensures u s)
       | else-place-before+then-place-before-2 w ↦
           let within = link_within ns c.args.link u s.held j c.in-Some.is in
           let put = w.nodes-is ∙ ap (λ (e : Entry). set ns j (record { entry = e; left = n.left; right = n.right; parent = n.parent; weight = n.weight })) w.apply.ensures ∙ set_altered (retitled f) ns j n within read in
-          subst (λ ms. Ready ms n.left j n.right) (sym put) (ready_here f ns c.args.link j n c.in-Some.is read u s)
+          subst (λ ms. Ready ms n.left j n.right) (sym put) (ready_here f ns c.args.link j c.in-Some.is u s)
       | else-place-before+else-place-before-2 w ↦
-          subst (λ ms. Ready ms n.left j n.right) (sym w.nodes-is) (ready_revised_right f ns c.args.link j n c.in-Some.is read w.revise_below-else-place-before-2.new.nodes c.args.place (c.args.place - c.weight_of-before.result.size - 1) w.revise_below-else-place-before-2.ensures u s)
+          subst (λ ms. Ready ms n.left j n.right) (sym w.nodes-is) (ready_revised_right f ns c.args.link j c.in-Some.is w.revise_below-else-place-before-2.new.nodes c.args.place (c.args.place - c.weight_of-before.result.size - 1) w.revise_below-else-place-before-2.ensures u s)
     ]
 
 pub returns : goal.returns
@@ -67,11 +65,11 @@ returns t c =
     let sized : (l : Tree) → Held ns n.left l → c.weight_of-before.result.size ≡ size l = λ l h. ap (λ (w : Weight). w.size) (c.weight_of-before.ensures l h) in
     elim c.if-place-before.branch [
       | then-place-before w ↦
-          revised_left f ns c.args.link j n c.in-Some.is read w.revise_below.new.nodes place ks i (λ l h. omega (arith, sized l h, w.if-place-before.true)) w.revise_below.ensures (subst (λ ms. Makes node ms ks n.left j n.right i) w.nodes-is c.tie.ensures)
+          revised_left f ns c.args.link j c.in-Some.is w.revise_below.new.nodes place ks i (λ l h. omega (arith, sized l h, w.if-place-before.true)) w.revise_below.ensures (subst (λ ms. Makes node ms ks n.left j n.right i) w.nodes-is c.tie.ensures)
       | else-place-before+then-place-before-2 w ↦
           let within = link_within ns c.args.link c.requires.0 c.requires.1.held j c.in-Some.is in
           let put = w.nodes-is ∙ ap (λ (e : Entry). set ns j (record { entry = e; left = n.left; right = n.right; parent = n.parent; weight = n.weight })) w.apply.ensures ∙ set_altered (retitled f) ns j n within read in
-          revised_here f ns c.args.link j n c.in-Some.is read (keeps c.args.change) ks i place (λ l h. omega (arith, sized l h, w.if-place-before-2.true)) (subst (λ ms. Makes node ms ks n.left j n.right i) put c.tie.ensures)
+          revised_here f ns c.args.link j c.in-Some.is (keeps c.args.change) ks i place (λ l h. omega (arith, sized l h, w.if-place-before-2.true)) (subst (λ ms. Makes node ms ks n.left j n.right i) put c.tie.ensures)
       | else-place-before+else-place-before-2 w ↦
-          revised_right f ns c.args.link j n c.in-Some.is read w.revise_below-else-place-before-2.new.nodes place ks i q (λ l h. (omega (arith, sized l h, w.if-place-before.false, w.if-place-before-2.false), ap (λ m. place - m - 1) (sized l h))) w.revise_below-else-place-before-2.ensures (subst (λ ms. Makes node ms ks n.left j n.right i) w.nodes-is c.tie.ensures)
+          revised_right f ns c.args.link j c.in-Some.is w.revise_below-else-place-before-2.new.nodes place ks i q (λ l h. (omega (arith, sized l h, w.if-place-before.false, w.if-place-before-2.false), ap (λ m. place - m - 1) (sized l h))) w.revise_below-else-place-before-2.ensures (subst (λ ms. Makes node ms ks n.left j n.right i) w.nodes-is c.tie.ensures)
     ]

@@ -7,42 +7,38 @@ use Rattle.avl_tree.specs.declared.node.Weight.{Weight}
 use Rattle.avl_tree.specs.Tree.{entries, size}
 use Rattle.avl_tree.proofs.Sizes.{size_entries, prepared_entries}
 use Rattle.avl_tree.proofs.Steps.{find_behind, find_mid, shifted_behind}
-use Rattle.avl_tree.proofs.Weighs.{rooted, lefts, rights, falls_left, falls_right}
-use Rattle.avl_tree.proofs.Weighs.{node_at, read_at}
+use Rattle.avl_tree.proofs.Weighs.{opened, lefts, rights, falls_left, falls_right}
 use Rattle.avl_tree.proofs.find.+nth_below.Goals as goal
 
 pub weight_of-left-requires : goal.weight_of-left-requires
-weight_of-left-requires t c = let o = rooted c.args.nodes.now c.args.link c.requires.0 c.requires.1 c.in_ok-node.field-0 (node_at c.args.nodes.now c.in_ok-node.field-0) c.in_ok-node.was (read_at c.args.nodes.now c.in_ok-node.field-0) in (o.lower, lefts o)
+weight_of-left-requires t c = let o = opened c.requires.1 c.in_ok-node.was in (o.lower, lefts o)
 
 pub nth_below-requires : goal.nth_below-requires
 nth_below-requires t c =
-    let o = rooted c.args.nodes.now c.args.link c.requires.0 c.requires.1 c.in_ok-node.field-0 (node_at c.args.nodes.now c.in_ok-node.field-0) c.in_ok-node.was (read_at c.args.nodes.now c.in_ok-node.field-0) in
-    let fall = falls_left c.args.nodes.now c.args.link c.requires.0 c.in_ok-node.field-0 (node_at c.args.nodes.now c.in_ok-node.field-0) c.requires.1 o in
-    (omega (arith, fall, c.decreases), (o.lower, lefts o, omega (arith, c.requires.2, ap size o.is)))
+    let o = opened c.requires.1 c.in_ok-node.was in
+    (omega (arith, falls_left c.requires.1 o, c.decreases), (o.lower, lefts o, omega (arith, c.requires.2, ap size o.is)))
 
 pub nth_below-requires-then-not-prepared_here : goal.nth_below-requires-then-not-prepared_here
 nth_below-requires-then-not-prepared_here t c =
-    let o = rooted c.args.nodes.now c.args.link c.requires.0 c.requires.1 c.in_ok-node.field-0 (node_at c.args.nodes.now c.in_ok-node.field-0) c.in_ok-node.was (read_at c.args.nodes.now c.in_ok-node.field-0) in
-    let fall = falls_right c.args.nodes.now c.args.link c.requires.0 c.in_ok-node.field-0 (node_at c.args.nodes.now c.in_ok-node.field-0) c.requires.1 o in
+    let o = opened c.requires.1 c.in_ok-node.was in
     let n = ap (λ (w : Weight). w.size) (c.weight_of-left.ensures o.lower (lefts o)) in
-    (omega (arith, fall, c.decreases), (o.upper, rights o, omega (arith, c.requires.2, ap size o.is, n)))
+    (omega (arith, falls_right c.requires.1 o, c.decreases), (o.upper, rights o, omega (arith, c.requires.2, ap size o.is, n)))
 
 pub nth_below-requires-else-n-before-2 : goal.nth_below-requires-else-n-before-2
 nth_below-requires-else-n-before-2 t c =
-    let o = rooted c.args.nodes.now c.args.link c.requires.0 c.requires.1 c.in_ok-node.field-0 (node_at c.args.nodes.now c.in_ok-node.field-0) c.in_ok-node.was (read_at c.args.nodes.now c.in_ok-node.field-0) in
-    let fall = falls_right c.args.nodes.now c.args.link c.requires.0 c.in_ok-node.field-0 (node_at c.args.nodes.now c.in_ok-node.field-0) c.requires.1 o in
+    let o = opened c.requires.1 c.in_ok-node.was in
     let n = ap (λ (w : Weight). w.size) (c.weight_of-left.ensures o.lower (lefts o)) in
-    (omega (arith, fall, c.decreases), (o.upper, rights o, omega (arith, c.requires.2, ap size o.is, n)))
+    (omega (arith, falls_right c.requires.1 o, c.decreases), (o.upper, rights o, omega (arith, c.requires.2, ap size o.is, n)))
 
 pub returns-then-n-before : goal.returns-then-n-before
 returns-then-n-before t c u h =
-    let o = rooted c.args.nodes.now c.args.link u h c.in_ok-node.field-0 (node_at c.args.nodes.now c.in_ok-node.field-0) c.in_ok-node.was (read_at c.args.nodes.now c.in_ok-node.field-0) in
+    let o = opened h c.in_ok-node.was in
     let n = ap (λ (w : Weight). w.prepared) (c.weight_of-left.ensures o.lower (lefts o)) in
     c.nth_below.ensures o.lower (lefts o) ∙ sym (ap (shifted c.args.offset) (ap (λ v. find is_prepared (entries v) c.args.n) o.is ∙ find_left is_prepared (entries o.lower) (o.entry ∷ entries o.upper) c.args.n (omega (arith, n, prepared_entries o.lower, c.if-n-before.true))))
 
 pub returns-then-not-prepared_here : goal.returns-then-not-prepared_here
 returns-then-not-prepared_here t c u h =
-    let o = rooted c.args.nodes.now c.args.link u h c.in_ok-node.field-0 (node_at c.args.nodes.now c.in_ok-node.field-0) c.in_ok-node.was (read_at c.args.nodes.now c.in_ok-node.field-0) in
+    let o = opened h c.in_ok-node.was in
     let n = ap (λ (w : Weight). w.size) (c.weight_of-left.ensures o.lower (lefts o)) in
     let m = ap (λ (w : Weight). w.prepared) (c.weight_of-left.ensures o.lower (lefts o)) in
     let xs = entries o.lower in
@@ -55,7 +51,7 @@ returns-then-not-prepared_here t c u h =
 
 pub returns-then-n-before-2 : goal.returns-then-n-before-2
 returns-then-n-before-2 t c u h =
-    let o = rooted c.args.nodes.now c.args.link u h c.in_ok-node.field-0 (node_at c.args.nodes.now c.in_ok-node.field-0) c.in_ok-node.was (read_at c.args.nodes.now c.in_ok-node.field-0) in
+    let o = opened h c.in_ok-node.was in
     let n = ap (λ (w : Weight). w.size) (c.weight_of-left.ensures o.lower (lefts o)) in
     let m = ap (λ (w : Weight). w.prepared) (c.weight_of-left.ensures o.lower (lefts o)) in
     let xs = entries o.lower in
@@ -65,7 +61,7 @@ returns-then-n-before-2 t c u h =
 
 pub returns-else-n-before-2 : goal.returns-else-n-before-2
 returns-else-n-before-2 t c u h =
-    let o = rooted c.args.nodes.now c.args.link u h c.in_ok-node.field-0 (node_at c.args.nodes.now c.in_ok-node.field-0) c.in_ok-node.was (read_at c.args.nodes.now c.in_ok-node.field-0) in
+    let o = opened h c.in_ok-node.was in
     let n = ap (λ (w : Weight). w.size) (c.weight_of-left.ensures o.lower (lefts o)) in
     let m = ap (λ (w : Weight). w.prepared) (c.weight_of-left.ensures o.lower (lefts o)) in
     let xs = entries o.lower in
