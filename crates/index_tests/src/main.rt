@@ -13,7 +13,7 @@ struct Draw(u32);
 
 impl Draw {
     /// The next pseudo-random number.
-    fn next(self) -> Draw {
+    fn successor(self) -> Draw {
         Draw(self.0.wrapping_mul(1_664_525).wrapping_add(1_013_904_223))
     }
 
@@ -85,8 +85,8 @@ fn compared<I: PositionIndex, J: PositionIndex>(
     let mut most = 0;
     for _ in 0..steps {
         let places = b.len().min(70_000) as u32 + 3;
-        let first = last.next();
-        let second = first.next();
+        let first = last.successor();
+        let second = first.successor();
         let entry = second.entry(characters);
         let same_act = act(a, first, places, entry) == act(b, first, places, entry);
         let same_answers = answers(a, second, places, characters)
