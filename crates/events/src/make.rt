@@ -27,10 +27,8 @@ impl Character {
     pub fn new(code: u32) -> Result<Character, EventFault>
         ensures answer { CharacterMade code result }
     {
-        match char::from_u32(code) {
-            Some(_) => Ok(Character { code }),
-            None => Err(EventFault::Character { event: 0 }),
-        }
+        char::from_u32(code).ok_or(EventFault::Character { event: 0 })?;
+        Ok(Character { code })
     }
 }
 

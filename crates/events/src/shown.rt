@@ -3,6 +3,7 @@ use crate::character::Character;
 use crate::deed::Deed;
 use crate::faults::{BookFault, EventFault, Layer};
 use crate::name::Name;
+use std::error::Error;
 use std::fmt;
 
 // Author and number, as 2.7.
@@ -70,7 +71,10 @@ impl fmt::Display for BookFault {
 // As the refusal of a book that it becomes.
 impl fmt::Display for EventFault {
     fn fmt<W: fmt::Write>(&self, f: &mut fmt::Formatter<W>) -> fmt::Result {
-        let refusal = BookFault::Event(*self);
-        write!(f, "{refusal}")
+        BookFault::from(*self).fmt(f)
     }
 }
+
+impl Error for BookFault {}
+
+impl Error for EventFault {}
