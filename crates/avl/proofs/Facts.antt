@@ -1,12 +1,14 @@
 -- What the ghost fields of an AVL index say, as facts about its tree.
-use Rattle.std.proofs.Common.{◌≡◌, ℕ, ◌<◌, ◌≤◌, true, false, List, [], ◌∷◌, ◌++◌, length, set, Some, None, vec_items, vec_len, Option, sym, refl, ap, ◌∙◌, subst, arith}
+use Rattle.std.proofs.Common.{◌≡◌, ℕ, ◌<◌, ◌≤◌, true, false, ltb, List, [], ◌∷◌, ◌++◌, length, get_or, set, Some, None, vec_items, vec_len, Option, sym, refl, ap, ◌∙◌, subst, arith, ltb-true}
 use lib.ListN.{length-map}
 use Rattle.std.specs.List.{insert, slice_get}
 use Rattle.indexes.specs.Changes.{at_place, trimmed}
 use Rattle.indexes.specs.declared.entry.Entry.{Entry}
 use Rattle.indexes.proofs.Apart.{away_unfound}
+use Rattle.indexes.proofs.Places.{place_of_away}
+use Rattle.std.proofs.lemmas.Option.{slice_get_read}
 use Rattle.indexes.specs.Laws.{Distinct}
-use Rattle.indexes.specs.Questions.{characters, listed}
+use Rattle.indexes.specs.Questions.{characters, listed, place_of}
 use Rattle.avl.specs.Avl.{avl_tree_of, avl_entries}
 use Rattle.avl.specs.declared.index.AvlIndex.{AvlIndex}
 use Rattle.avl_tree.specs.declared.node.Node.{Node}
@@ -17,11 +19,11 @@ use Rattle.avl_tree.specs.Tree.{Tree, leaf, entries, numbers, size}
 use Rattle.avl_tree.proofs.Grown.{Whole, whole, shaped, held_whole, tree_is}
 use Rattle.avl_tree.specs.Turns.{put, revised}
 use Rattle.avl_tree.proofs.Inserted.{sprout_new, whole_insert, named_insert, whole_revised}
-use Rattle.avl_tree.proofs.Names.{names_distinct}
+use Rattle.avl_tree.proofs.Names.{names_distinct, unlisted}
 use Rattle.avl_tree.proofs.Puts.{inserts}
 use Rattle.avl_tree.proofs.Rebuilt.{whole_built, built_entries}
 use Rattle.avl_tree.proofs.Revises.{revising}
-use Rattle.avl_tree.proofs.Seeks.{no_name}
+use Rattle.avl_tree.proofs.Seeks.{Located, located, no_name}
 use Rattle.avl_tree.proofs.Ties.{entries_adopted}
 use Rattle.avl_tree.proofs.Sizes.{size_entries}
 use Rattle.avl_tree.proofs.Untold.{untold}
@@ -51,6 +53,21 @@ stood_at s ns is = record { held = held_at s ns is; apart = (whole_of s).apart_a
 
 pub named_at : (s : AvlIndex) (ns : List Node) → ns ≡ vec_items s.nodes → Named ns (vec_items s.directory)
 named_at s ns is = subst (λ (ms : List Node). Named ms (vec_items s.directory)) (sym is) s.named
+
+-- where the directory leads for a character
+pub leads_at : (s : AvlIndex) (c i : ℕ) → c < 65536 → i ≡ get_or (vec_items s.directory) c i → slice_get (vec_items s.directory) c ≡ Some i
+leads_at s c i fits read =
+    slice_get_read (vec_items s.directory) (vec_len s.directory) c i s.directory.ok.0 (omega (arith, s.wide, fits)) read
+
+-- a character that it leads elsewhere is not listed
+pub elsewhere : (s : AvlIndex) (ns : List Node) (c i : ℕ) → ns ≡ vec_items s.nodes → slice_get (vec_items s.directory) c ≡ Some i → ((n : Node) → slice_get ns i ≡ Some n → n.entry.character ≡ c → ⊥) → None ≡ place_of (avl_entries s) c
+elsewhere s ns c i at leads other =
+    sym (place_of_away c (avl_entries s) (unlisted ns (vec_items s.directory) None (avl_tree_of s) c i (whole_at s ns at).holds (named_at s ns at) leads other))
+
+-- where a node stands that was read
+pub located_at : (s : AvlIndex) (ns : List Node) (i : ℕ) (n : Node) → ns ≡ vec_items s.nodes → true ≡ ltb i (length ns) → n ≡ get_or ns i n → Located ns (avl_tree_of s) i n
+located_at s ns i n at within read =
+    located ns s.root (avl_tree_of s) i n (whole_at s ns at) (small_of s) (ltb-true i (length ns) (sym within)) read
 
 -- what the ghost fields ask of nodes, a root and a directory, and the entries that they hold
 pub record Facts (ns : List Node) (root : Option ℕ) (dir : List ℕ) (es : List Entry) : Type 0 where

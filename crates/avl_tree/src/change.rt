@@ -10,6 +10,8 @@ use crate::weigh::weight_of;
 use indexes::{Effect, Entry};
 
 /// A change of one of the two states of an entry.
+// Not a closure: what a closure answers is a relation, and each caller would have to show that it is
+// a function that keeps the character; the one definition `applied` says both.
 #[derive(Clone, Copy)]
 pub enum Change {
     Prepared(u32),

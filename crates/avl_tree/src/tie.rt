@@ -12,12 +12,12 @@ pub fn adopt(nodes: &mut [Node], link: Option<u16>, parent: Option<u16>)
     ensures { nodes.new ≡ adopted nodes.old link parent }
 {
     if let Some(i) = link {
-        let node = nodes[i as usize];
-        nodes[i as usize] = Node { parent, ..node };
+        nodes[i as usize].parent = parent;
     }
 }
 
 /// Makes the node `j` the root of the subtrees at the two links, and answers it.
+// The links and the node are no struct: each call joins others, and would build one to take it apart.
 pub fn tie(nodes: &mut [Node], left: Option<u16>, j: u16, right: Option<u16>) -> u16
     requires { Ready nodes.old left j right }
     ensures { Makes joint nodes.old nodes.new left j right result }

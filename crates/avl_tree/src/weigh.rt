@@ -19,10 +19,7 @@ pub fn weight_of(nodes: &[Node], link: Option<u16>) -> Weight
     requires { Stands nodes.now link }
     ensures { (t : Tree) → Held nodes.now link t → result ≡ weight t }
 {
-    match link {
-        None => EMPTY,
-        Some(i) => nodes[i as usize].weight,
-    }
+    link.map_or(EMPTY, |i| nodes[i as usize].weight)
 }
 
 /// The weight of a node over two sides.

@@ -1,4 +1,4 @@
-use Rattle.std.proofs.Common.{ltb, length, vec_items, refl, ap, ◌∙◌, arith}
+use Rattle.std.proofs.Common.{ltb, length, vec_items, ap, ◌∙◌, arith}
 use Rattle.std.specs.Vec.{with_items}
 use Rattle.std.proofs.lemmas.List.{with_items_is}
 use Rattle.indexes.proofs.Edits.{length_at_place}
@@ -45,12 +45,16 @@ invariant_of-self c =
       small = s.small;
     }
 
-pub returns : goal.returns
-returns c =
+pub returns-clause-answer : goal.returns-clause-answer
+returns-clause-answer c =
+    let full = c.adopt.auto.nodes ∙ c.revise_below.auto.nodes ∙ c.as_mut_slice-nodes.ensures.len in
+    ap (ltb c.args.place) (full ∙ count_of c.args.self.now)
+
+pub returns-clause-after : goal.returns-clause-after
+returns-clause-after c =
     let s = c.args.self.now in
     let v = c.as_mut_slice-nodes in
     let r = c.revise_below in
-    let full = c.adopt.auto.nodes ∙ r.auto.nodes ∙ v.ensures.len in
-    let is = with_items_is s.nodes c.adopt.new.nodes full ∙ c.adopt.ensures in
+    let is = with_items_is s.nodes c.adopt.new.nodes (c.adopt.auto.nodes ∙ r.auto.nodes ∙ v.ensures.len) ∙ c.adopt.ensures in
     let g = changed s (applied c.args.change) c.args.place v.result.now r.new.nodes (vec_items (with_items s.nodes c.adopt.new.nodes)) v.ensures.value r.auto.nodes r.ensures is in
-    record { answer = ap (ltb c.args.place) (full ∙ count_of s); after = g.meaning; kept = refl }
+    g.meaning

@@ -1,4 +1,4 @@
-use Rattle.std.proofs.Common.{length, Some, vec_items, refl, ap, ◌∙◌, arith}
+use Rattle.std.proofs.Common.{length, Some, vec_items, ap, ◌∙◌, arith}
 use Rattle.std.specs.Vec.{with_items}
 use Rattle.std.proofs.lemmas.List.{with_items_is}
 use Rattle.std.proofs.lemmas.List.Edits.{length-insert}
@@ -63,8 +63,8 @@ invariant_of-self c =
       small = s.small;
     }
 
-pub returns : goal.returns
-returns c =
+pub returns-clause-after : goal.returns-clause-after
+returns-clause-after c =
     let s = c.args.self.now in
     let v = c.as_mut_slice-nodes in
     let w = c.push_reserved.new.self in
@@ -73,4 +73,4 @@ returns c =
     let more_is = pushed s x _ _ _ v.ensures.value c.push_reserved.ensures.items c.leaf.ensures in
     let is = with_items_is w c.adopt.new.nodes (c.adopt.auto.nodes ∙ p.auto.nodes ∙ v.ensures.len) ∙ c.adopt.ensures in
     let g = inserted s c.args.place c.len-new.result p.result x v.result.now p.new.nodes (vec_items (with_items w c.adopt.new.nodes)) c.requires.within c.requires.new c.requires.room more_is c.len-new.ensures (omega arith) p.ensures is in
-    record { after = g.meaning; kept = refl }
+    g.meaning

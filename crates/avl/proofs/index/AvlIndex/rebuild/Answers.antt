@@ -1,4 +1,4 @@
-use Rattle.std.proofs.Common.{ℕ, List, length, vec_items, sym, refl, ap, ◌∙◌, subst, arith}
+use Rattle.std.proofs.Common.{ℕ, List, length, vec_items, sym, ap, ◌∙◌, subst, arith}
 use Rattle.std.specs.Vec.{with_items}
 use Rattle.std.proofs.lemmas.List.{with_items_is}
 use Rattle.indexes.specs.Changes.{trimmed}
@@ -33,17 +33,14 @@ lay_out-requires c =
       distinct = subst (λ xs. Distinct (characters xs)) (sym at) (distinct_trimmed es s.distinct);
     }
 
-pub build-self-requires : goal.build-self-requires
-build-self-requires c =
+pub build-self-requires-clause-small : goal.build-self-requires-clause-small
+build-self-requires-clause-small c =
     let s = c.args.self.now in
     let es = avl_entries s in
     let spare_is = spared s c.deref.result.now _ _ _ c.deref.ensures.value c.clear.ensures.items c.collect_below.ensures.after c.trim_cells.ensures.after in
     let v = c.as_mut_slice-nodes in
     let long = laid_length v.result.now (trimmed es) (ap held_entries v.ensures.value ∙ c.lay_out.ensures.after ∙ c.deref-2.ensures.value ∙ spare_is) in
-    record {
-      within = omega (arith, long, c.len.ensures, c.trim_cells.new.cells.ok.0, ap length spare_is);
-      small = omega (arith, long, length_trimmed es, s.within, s.small);
-    }
+    omega (arith, long, length_trimmed es, s.within, s.small)
 
 pub adopt-requires : goal.adopt-requires
 adopt-requires c i is =
@@ -79,8 +76,8 @@ invariant_of-self c =
       small = s.small;
     }
 
-pub returns : goal.returns
-returns c =
+pub returns-clause-after : goal.returns-clause-after
+returns-clause-after c =
     let s = c.args.self.now in
     let es = avl_entries s in
     let spare_is = spared s c.deref.result.now _ _ _ c.deref.ensures.value c.clear.ensures.items c.collect_below.ensures.after c.trim_cells.ensures.after in
@@ -92,4 +89,4 @@ returns c =
     let named = subst (λ (d : List ℕ). Named v.result.now d) (sym dir_is) (subst (λ (qs : List Node). Named qs laid.directory) (sym v.ensures.value) c.lay_out.ensures.named) in
     let is = with_items_is laid.nodes c.adopt.new.nodes (c.adopt.auto.nodes ∙ c.build-self.auto.nodes ∙ v.ensures.len) ∙ c.adopt.ensures in
     let g = rebuilt v.result.now c.build-self.new.nodes (vec_items (with_items laid.nodes c.adopt.new.nodes)) c.build-self.result c.len.result (vec_items (with_items s.directory laid.directory)) (trimmed es) held count named c.build-self.ensures is in
-    record { after = g.meaning; kept = refl }
+    g.meaning

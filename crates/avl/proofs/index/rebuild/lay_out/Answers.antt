@@ -1,22 +1,9 @@
-use Rattle.std.proofs.Common.{◌+◌, List, vec_items, sym, refl, ap, ◌∙◌, subst, arith}
-use Rattle.std.proofs.lemmas.List.{take_all}
+use Rattle.std.proofs.Common.{◌+◌, vec_items, ap, ◌∙◌, arith}
 use Rattle.avl_tree.specs.declared.node.Node.{Node}
 use Rattle.avl_tree.specs.Nodes.{held_entries}
-use Rattle.avl_tree.specs.Shape.{Named}
-use Rattle.avl.proofs.Facts.{named_none}
 use Rattle.avl_tree.proofs.Rebuilt.{laid_more, names_more}
 use Rattle.avl_tree.proofs.Weighs.{read_again}
 use Rattle.avl.proofs.index.rebuild.lay_out.Goals as goal
-
-pub loop-i-init : goal.loop-i-init
-loop-i-init c =
-    let e = c.clear.ensures.items in
-    record {
-      laid = ap held_entries e;
-      named = subst (λ (ns : List Node). Named ns c.args.directory.now) (sym e) (named_none c.args.directory.now);
-      kept = refl;
-      long = c.clear.ensures.len;
-    }
 
 pub loop-i-preserved : goal.loop-i-preserved
 loop-i-preserved c =
@@ -32,12 +19,4 @@ loop-i-preserved c =
       named = rw is (names_more es ns c.loop-i.directory i _ n c.requires.distinct c.loop-i-test.true (read_again es i _) own v.laid (omega (arith, c.requires.wide)) v.named);
       kept = c.push_reserved.ensures.capacity ∙ v.kept;
       long = c.push_reserved.ensures.len ∙ ap (λ k. k + 1) v.long;
-    }
-
-pub returns : goal.returns
-returns c =
-    record {
-      after = c.loop-i.invariant.laid ∙ take_all c.loop-i.i c.args.entries.now c.loop-i-test.false;
-      named = c.loop-i.invariant.named;
-      kept = c.loop-i.invariant.kept ∙ c.clear.ensures.capacity;
     }

@@ -1,4 +1,4 @@
-use Rattle.std.proofs.Common.{length, vec_items, refl, ap, arith}
+use Rattle.std.proofs.Common.{length, vec_items, ap, arith}
 use Rattle.avl.proofs.Facts.{emptied}
 use Rattle.avl.proofs.index.position.AvlIndexPositionIndex.clear.Goals as goal
 
@@ -21,8 +21,3 @@ invariant_of-self c =
       spared = s.spared;
       small = s.small;
     }
-
-pub returns : goal.returns
-returns c =
-    let g = emptied (vec_items c.clear.new.self) (vec_items c.args.self.now.directory) c.clear.ensures.items in
-    record { after = g.meaning; kept = refl }
