@@ -1,5 +1,5 @@
 -- Counts: of the events with a mark, of a number in a list, and of a sum where one number's share changes.
-use Rattle.std.proofs.Common.{◌≡◌, ℕ, zero, suc, ◌+◌, ◌<◌, ◌≤◌, cond, eqb, List, [], ◌∷◌, sum_by, refl, inl, inr, arith}
+use Rattle.std.proofs.Common.{◌≡◌, ℕ, zero, suc, ◌+◌, ◌<◌, ◌≤◌, cond, not, ◌&&◌, eqb, ltb, List, [], ◌∷◌, sum_by, refl, inl, inr, arith}
 use Rattle.std.proofs.lemmas.List.Sums.{sum_by-cons}
 use Rattle.std.proofs.lemmas.Bool.{cases_eq}
 use Rattle.std.proofs.lemmas.Bool.Decides.{nat_tests}
@@ -52,3 +52,15 @@ module _ (f g : ℕ → ℕ) (e : ℕ) (same : (x : ℕ) → (x ≡ e → ⊥) �
   change_one [] c = absurd (omega arith)
   change_one (y ∷ ys) c =
       grind (arith, nat_tests, sum_by-cons (λ z. cond (eqb z e) 1 0) y ys, sum_by-cons f y ys, sum_by-cons g y ys, same y, change_none ys, change_one ys)
+
+-- how often a number stands in the queue, by its mark k and the bound, where the number e is queued besides
+pub once_more : (c d x e k l bound : ℕ) → d ≡ c + cond (eqb e x) 1 0 → c ≡ cond (not (eqb k 0) && ltb x bound) 1 0 → (x ≡ e → k ≡ 0) → (x ≡ e → l ≡ 0 → ⊥) → ((x ≡ e → ⊥) → l ≡ k) → e < bound → d ≡ cond (not (eqb l 0) && ltb x bound) 1 0
+once_more c d x e k l bound sum was bare some same low = grind (arith, nat_tests)
+
+-- and where e was taken, the latest
+pub once_less : (c d x e k l bound : ℕ) → c ≡ d + cond (eqb e x) 1 0 → c ≡ cond (not (eqb k 0) && ltb x bound) 1 0 → (x ≡ e → k ≡ 0 → ⊥) → (e < x → x < bound → k ≡ 0) → l ≡ k → e < bound → d ≡ cond (not (eqb l 0) && ltb x e) 1 0
+once_less c d x e k l bound sum was some gap same low = grind (arith, nat_tests)
+
+-- what stands there has a mark and is below the bound
+pub once_there : (c k e bound : ℕ) → c ≡ cond (not (eqb k 0) && ltb e bound) 1 0 → 0 < c → (e < bound) × (k ≡ 0 → ⊥)
+once_there c k e bound was pos = (grind (arith, nat_tests), λ z. grind (arith, nat_tests))

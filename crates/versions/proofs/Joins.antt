@@ -8,19 +8,30 @@ pub join_some : (a m : ℕ) → (m ≡ 0 → ⊥) → join a m ≡ 0 → ⊥
 join_some a m nz z = grind (arith, nat_tests)
 
 -- one event gets a mark besides
-pub spread_one : (e m : ℕ) (old new : ℕ → ℕ) → (m ≡ 0 → ⊥) → ((x : ℕ) → new x ≡ cond (eqb x e) (join (old e) m) (old x)) → Spread (λ x. x ≡ e) m old new
-spread_one e m old new nz is = record {
-  keeps = λ other x low h. ((λ z. grind (arith, nat_tests, is x)), (λ z. grind (arith, nat_tests, is x)));
-  takes = λ other x low q h. ((λ z. grind (arith, nat_tests, is x)), (λ z. grind (arith, nat_tests, is x)));
-  from = λ other x low h. elim (cases_eq (old x) 0) [
-    | inl z ↦ inr (grind (arith, nat_tests, is x), (nz, λ r. h.1 (grind (arith, nat_tests, is x))))
-    | inr n ↦ elim (cases_eq (old x) other) [
-      | inl q ↦ inr (grind (arith, nat_tests, is x), (nz, λ r. h.1 (grind (arith, nat_tests, is x))))
-      | inr k ↦ inl (n, k)
-    ]
-  ];
-  others = λ x n. grind (arith, nat_tests, is x);
-}
+module _ (e m : ℕ) (old new : ℕ → ℕ) (nz : m ≡ 0 → ⊥) (is : (x : ℕ) → new x ≡ cond (eqb x e) (join (old e) m) (old x)) where
+  pub joined_own : new e ≡ join (old e) m
+  joined_own = grind (arith, nat_tests, is e)
+
+  pub joined_other : (x : ℕ) → (x ≡ e → ⊥) → new x ≡ old x
+  joined_other x n = grind (arith, nat_tests, is x)
+
+  -- the same events have marks, where this one had one
+  pub joined_some : (old e ≡ 0 → ⊥) → (x : ℕ) → eqb (new x) 0 ≡ eqb (old x) 0
+  joined_some some x = grind (arith, nat_tests, is x)
+
+  pub spread_one : Spread (λ x. x ≡ e) m old new
+  spread_one = record {
+    keeps = λ other x low h. ((λ z. grind (arith, nat_tests, is x)), (λ z. grind (arith, nat_tests, is x)));
+    takes = λ other x low q h. ((λ z. grind (arith, nat_tests, is x)), (λ z. grind (arith, nat_tests, is x)));
+    from = λ other x low h. elim (cases_eq (old x) 0) [
+      | inl z ↦ inr (grind (arith, nat_tests, is x), (nz, λ r. h.1 (grind (arith, nat_tests, is x))))
+      | inr n ↦ elim (cases_eq (old x) other) [
+        | inl q ↦ inr (grind (arith, nat_tests, is x), (nz, λ r. h.1 (grind (arith, nat_tests, is x))))
+        | inr k ↦ inl (n, k)
+      ]
+    ];
+    others = joined_other;
+  }
 
 -- one event more gets the mark
 pub spread_more : {P Q : ℕ → Type 0} (e m : ℕ) (old mid new : ℕ → ℕ) → ((x : ℕ) → P x → Q x) → Q e → ((x : ℕ) → Q x → P x ⊎ (x ≡ e)) → Spread P m old mid → Spread (λ x. x ≡ e) m mid new → Spread Q m old new

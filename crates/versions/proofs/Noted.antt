@@ -1,17 +1,17 @@
 -- What marking one event leaves, whether it had a mark or not.
-use Rattle.std.proofs.Common.{◌≡◌, ℕ, ◌+◌, ◌-◌, ◌*◌, ◌<◌, ◌≤◌, cond, not, ◌&&◌, eqb, ltb, List, [], ◌∷◌, ◌++◌, length, get_or, take, set, sum_by, sym, refl, ap, ◌∙◌, subst, inl, inr, arith}
+use Rattle.std.proofs.Common.{◌≡◌, ℕ, ◌+◌, ◌-◌, ◌*◌, ◌<◌, ◌≤◌, cond, not, ◌&&◌, eqb, ltb, List, [], ◌∷◌, ◌++◌, length, get_or, take, set, sum_by, sym, refl, ap, ◌∙◌, subst, arith}
 use Rattle.std.proofs.lemmas.List.{get_or-set_same, get_or-set_other, take-set-le, length-set}
 use Rattle.std.proofs.lemmas.List.Sums.{sum_by_push}
 use Rattle.std.proofs.lemmas.List.Sorted.{sum_by-IsPermutation}
-use Rattle.std.proofs.lemmas.Bool.{cases_eq, eq-eqb, ne_eqb, lt-ltb}
+use Rattle.std.proofs.lemmas.Bool.{eq-eqb}
 use Rattle.std.proofs.lemmas.Grind.{common_steps}
 use Rattle.queue.specs.Heaps.{Pushed}
 use Rattle.versions.specs.declared.counters.Counters.{Counters}
 use Rattle.versions.specs.Marks.{one_sided, join}
 use Rattle.versions.specs.Searches.{marks, copies, open_in, Listed, Queued, Noted}
-use Rattle.versions.proofs.Joins.{join_some, spread_one}
+use Rattle.versions.proofs.Joins.{join_some, joined_own, joined_other, joined_some, spread_one}
 use Rattle.versions.proofs.Cells.{mark_changed, mark_new}
-use Rattle.versions.proofs.Counts.{marked_same, marked_more, marked_lt, change_none, change_one}
+use Rattle.versions.proofs.Counts.{marked_same, marked_more, marked_lt, change_none, change_one, once_more}
 use Rattle.versions.proofs.Queues.{at_behind, seen_le, once_in, once_out, heaped_same, share}
 
 abbrev pub again : Counters → ℕ → Counters
@@ -36,22 +36,6 @@ module _ (w : List ℕ) (s : Counters) (e m p : ℕ) (l : Listed w s) (in' : e <
         (get_or-set_same w (3 * s.room + e) (join (marks w s e) m) 0 (omega (arith, l.size)))
         (λ k d. get_or-set_other w (3 * s.room + e) k (join (marks w s e) m) 0 d)
 
-    at_own : marks changed (again s p) e ≡ join (marks w s e) m
-    at_own = marks_then e ∙ rw (eq-eqb e e refl)
-
-    at_other : (x : ℕ) → (x ≡ e → ⊥) → marks changed (again s p) x ≡ marks w s x
-    at_other x n = marks_then x ∙ rw (ne_eqb x e n)
-
-    zero_same : (x : ℕ) → eqb (marks changed (again s p) x) 0 ≡ eqb (marks w s x) 0
-    zero_same x = elim (cases_eq x e) [
-      | inl q ↦
-          ap (λ y. eqb (marks changed (again s p) y) 0) q
-          ∙ ap (λ y. eqb y 0) at_own
-          ∙ ne_eqb (join (marks w s e) m) 0 (join_some (marks w s e) m nz)
-          ∙ sym (ap (λ y. eqb (marks w s y) 0) q ∙ ne_eqb (marks w s e) 0 some)
-      | inr n ↦ ap (λ y. eqb y 0) (at_other x n)
-    ]
-
     front : take s.queued changed ≡ take s.queued w
     front = take-set-le s.queued w (3 * s.room + e) _ (omega (arith, l.within, seen_le w s l))
 
@@ -60,7 +44,7 @@ module _ (w : List ℕ) (s : Counters) (e m p : ℕ) (l : Listed w s) (in' : e <
       listed = record {
         size = omega (arith, l.size, length-set w (3 * s.room + e) (join (marks w s e) m));
         small = l.small;
-        seen = l.seen ∙ sym (marked_same (marks w s) (marks changed (again s p)) s.room (λ x b. zero_same x));
+        seen = l.seen ∙ sym (marked_same (marks w s) (marks changed (again s p)) s.room (λ x b. joined_some e m (marks w s) (marks changed (again s p)) nz marks_then some x));
         within = l.within;
       };
       room = refl;
@@ -70,11 +54,11 @@ module _ (w : List ℕ) (s : Counters) (e m p : ℕ) (l : Listed w s) (in' : e <
       spread = spread_one e m (marks w s) (marks changed (again s p)) nz marks_then;
       queued = λ bound low q. record {
         heaped = heaped_same w changed s.queued (λ k d b. get_or-set_other w (3 * s.room + e) k _ d (λ z. omega (arith, l.within, seen_le w s l))) q.heaped;
-        once = λ x. ap (copies x) front ∙ q.once x ∙ ap (λ y. cond (not y && ltb x bound) 1 0) (sym (zero_same x));
+        once = λ x. ap (copies x) front ∙ q.once x ∙ ap (λ y. cond (not y && ltb x bound) 1 0) (sym (joined_some e m (marks w s) (marks changed (again s p)) nz marks_then some x));
         pending =
             let one = once_in w s l bound q e (low e refl) some in
-            let all = change_one (λ y. one_sided (marks w s y)) (λ y. one_sided (marks changed (again s p) y)) e (λ x n. ap one_sided (at_other x n)) (take s.queued w) one in
-            omega (arith, q.pending, ap one_sided at_own, ap (open_in (marks changed (again s p))) front);
+            let all = change_one (λ y. one_sided (marks w s y)) (λ y. one_sided (marks changed (again s p) y)) e (λ x n. ap one_sided (joined_other e m (marks w s) (marks changed (again s p)) nz marks_then x n)) (take s.queued w) one in
+            omega (arith, q.pending, ap one_sided (joined_own e m (marks w s) (marks changed (again s p)) nz marks_then), ap (open_in (marks changed (again s p))) front);
       };
       kept = λ k a b. get_or-set_other w (3 * s.room + e) k _ 0 (λ z. omega arith);
     }
@@ -116,14 +100,8 @@ module _ (w : List ℕ) (s : Counters) (e m p : ℕ) (l : Listed w s) (in' : e <
           (behind (2 * s.room + s.seen) (omega arith) ∙ cell_back)
           (λ k b x y z. behind k (omega arith) ∙ cell_other k 0 x y z)
 
-      new_own : marks v (more s p) e ≡ join (marks w s e) m
-      new_own = marks_new e ∙ rw (eq-eqb e e refl)
-
-      new_other : (x : ℕ) → (x ≡ e → ⊥) → marks v (more s p) x ≡ marks w s x
-      new_other x n = marks_new x ∙ rw (ne_eqb x e n)
-
       some_then : marks v (more s p) e ≡ 0 → ⊥
-      some_then z = join_some (marks w s e) m nz (sym new_own ∙ z)
+      some_then z = join_some (marks w s e) m nz (sym (joined_own e m (marks w s) (marks v (more s p)) nz marks_new) ∙ z)
 
       sum_then : (f : ℕ → ℕ) → sum_by f (take (s.queued + 1) v) ≡ sum_by f (take s.queued w) + f e
       sum_then f =
@@ -132,28 +110,17 @@ module _ (w : List ℕ) (s : Counters) (e m p : ℕ) (l : Listed w s) (in' : e <
           ∙ ap (λ xs. sum_by f xs + f e) front_then
 
       once_then : (bound : ℕ) → e < bound → Queued w s bound → (x : ℕ) → copies x (take (s.queued + 1) v) ≡ cond (not (eqb (marks v (more s p) x) 0) && ltb x bound) 1 0
-      once_then bound low q x = elim (cases_eq e x) [
-        | inl r ↦
-            let own : marks v (more s p) x ≡ 0 → ⊥ = λ z. some_then (ap (marks v (more s p)) r ∙ z) in
-            let bare : marks w s x ≡ 0 = ap (marks w s) (sym r) ∙ none in
-            let a = sum_then (λ y. cond (eqb y x) 1 0) in
-            let b = once_out w s l bound q x bare in
-            let c : cond {A = ℕ} (eqb e x) 1 0 ≡ 1 = rw (eq-eqb e x r) in
-            let d : copies x (take (s.queued + 1) v) ≡ 1 = omega arith in
-            d ∙ rw (ne_eqb (marks v (more s p) x) 0 own, lt-ltb x bound (omega arith))
-        | inr n ↦
-            let a = sum_then (λ y. cond (eqb y x) 1 0) in
-            let c : cond {A = ℕ} (eqb e x) 1 0 ≡ 0 = rw (ne_eqb e x n) in
-            let d : copies x (take (s.queued + 1) v) ≡ copies x (take s.queued w) = omega arith in
-            d ∙ q.once x ∙ ap (λ y. cond (not (eqb y 0) && ltb x bound) 1 0) (sym (new_other x (λ z. n (sym z))))
-      ]
+      once_then bound low q x =
+          once_more (copies x (take s.queued w)) (copies x (take (s.queued + 1) v)) x e (marks w s x) (marks v (more s p) x) bound
+          (sum_then (λ y. cond (eqb y x) 1 0)) (q.once x) (λ r. ap (marks w s) r ∙ none) (λ r z. some_then (ap (marks v (more s p)) (sym r) ∙ z))
+          (joined_other e m (marks w s) (marks v (more s p)) nz marks_new x) low
 
       pub noted_more : Noted (λ x. x ≡ e) m w s v (more s p)
       noted_more = record {
         listed = record {
           size = omega (arith, l.size, level);
           small = l.small;
-          seen = ap (λ y. y + 1) l.seen ∙ sym (marked_more (marks w s) (marks v (more s p)) s.room e in' none some_then new_other);
+          seen = ap (λ y. y + 1) l.seen ∙ sym (marked_more (marks w s) (marks v (more s p)) s.room e in' none some_then (joined_other e m (marks w s) (marks v (more s p)) nz marks_new));
           within = omega (arith, l.within);
         };
         room = refl;
@@ -167,8 +134,8 @@ module _ (w : List ℕ) (s : Counters) (e m p : ℕ) (l : Listed w s) (in' : e <
           pending =
               let zero = once_out w s l bound q e none in
               let a = sum_then (λ y. one_sided (marks v (more s p) y)) in
-              let b = change_none (λ y. one_sided (marks w s y)) (λ y. one_sided (marks v (more s p) y)) e (λ x n. ap one_sided (new_other x n)) (take s.queued w) zero in
-              omega (arith, q.pending, ap one_sided new_own, is);
+              let b = change_none (λ y. one_sided (marks w s y)) (λ y. one_sided (marks v (more s p) y)) e (λ x n. ap one_sided (joined_other e m (marks w s) (marks v (more s p)) nz marks_new x n)) (take s.queued w) zero in
+              omega (arith, q.pending, ap one_sided (joined_own e m (marks w s) (marks v (more s p)) nz marks_new), is);
         };
         kept = λ k a b. behind k a ∙ cell_other k 0 (λ z. omega arith) (λ z. omega arith) (λ z. omega arith);
       }

@@ -3,7 +3,7 @@ use Rattle.std.proofs.Common.{◌≡◌, ℕ, suc, ◌+◌, ◌-◌, ◌<◌, �
 use Rattle.std.proofs.lemmas.List.{get_or-take, length-take-le}
 use Rattle.std.proofs.lemmas.List.Sums.{sum_by-cons, sum_by_push}
 use Rattle.std.proofs.lemmas.List.Sorted.{sum_by-IsPermutation}
-use Rattle.std.proofs.lemmas.Bool.{cases_eq, cases_lt, eq-eqb, ne_eqb, lt-ltb, le-ltb, ltb-false, and_right}
+use Rattle.std.proofs.lemmas.Bool.{cases_eq, eq-eqb, ltb-false}
 use Rattle.std.proofs.lemmas.Bool.Decides.{nat_tests}
 use Rattle.queue.specs.Heaps.{Popped}
 use Rattle.versions.specs.declared.counters.Counters.{Counters}
@@ -11,7 +11,7 @@ use Rattle.versions.specs.declared.search.Search.{Search}
 use Rattle.versions.specs.Marks.{one_sided, told}
 use Rattle.versions.specs.Searches.{marks, copies, Listed, Queued, Taken}
 use Rattle.versions.proofs.Cells.{mark_kept, mark_some}
-use Rattle.versions.proofs.Counts.{marked_same}
+use Rattle.versions.proofs.Counts.{marked_same, once_less, once_there}
 use Rattle.versions.proofs.Queues.{at_behind, seen_le, once_in, pending_le, share}
 
 abbrev pub fewer : Counters → ℕ → Counters
@@ -56,17 +56,7 @@ module _ (w v : List ℕ) (s : Counters) (e p : ℕ) (l : Listed w s) (level : l
     was =
         let a = sum_then (λ y. cond (eqb y e) 1 0) in
         let b : cond {A = ℕ} (eqb e e) 1 0 ≡ 1 = rw (eq-eqb e e refl) in
-        let c : 0 < copies e (take s.queued w) = omega arith in (
-          elim (cases_lt e bound) [
-            | inl h ↦ h
-            | inr h ↦
-                let z : copies e (take s.queued w) ≡ 0 = q.once e ∙ rw (and_right (not (eqb (marks w s e) 0)) (ltb e bound) (le-ltb e bound h)) in
-                absurd (omega arith)
-          ],
-          λ h.
-              let z : copies e (take s.queued w) ≡ 0 = q.once e ∙ rw (eq-eqb (marks w s e) 0 h) in
-              omega arith,
-        )
+        once_there (copies e (take s.queued w)) (marks w s e) e bound (q.once e) (omega arith)
 
     -- no event between it and the bound has a mark
     gap : (x : ℕ) → e < x → x < bound → marks w s x ≡ 0
@@ -80,32 +70,10 @@ module _ (w v : List ℕ) (s : Counters) (e p : ℕ) (l : Listed w s) (level : l
           absurd (omega (arith, at.2, get_or-take s.queued w at.0 0 k))
     ]
 
-    once_less : (x : ℕ) → copies x (take (s.queued - 1) v) ≡ cond (not (eqb (marks v (fewer s p) x) 0) && ltb x e) 1 0
-    once_less x = elim (cases_eq e x) [
-      | inl r ↦
-          let a = sum_then (λ y. cond (eqb y x) 1 0) in
-          let b : cond {A = ℕ} (eqb e x) 1 0 ≡ 1 = rw (eq-eqb e x r) in
-          let c = once_in w s l bound q x (omega (arith, was.0)) (λ z. was.1 (ap (marks w s) r ∙ z)) in
-          let d : copies x (take (s.queued - 1) v) ≡ 0 = omega arith in
-          d ∙ rw (and_right (not (eqb (marks v (fewer s p) x) 0)) (ltb x e) (le-ltb x e (omega arith)))
-      | inr n ↦
-          let a = sum_then (λ y. cond (eqb y x) 1 0) in
-          let b : cond {A = ℕ} (eqb e x) 1 0 ≡ 0 = rw (ne_eqb e x n) in
-          let d : copies x (take (s.queued - 1) v) ≡ copies x (take s.queued w) = omega arith in
-          d ∙ q.once x ∙ sides x n ∙ ap (λ y. cond (not (eqb y 0) && ltb x e) 1 0) (sym (same x))
-    ]
-      where
-        sides : (x : ℕ) → (e ≡ x → ⊥) → cond {A = ℕ} (not (eqb (marks w s x) 0) && ltb x bound) 1 0 ≡ cond (not (eqb (marks w s x) 0) && ltb x e) 1 0
-        sides x n = elim (cases_eq (marks w s x) 0) [
-          | inl z ↦ rw (eq-eqb (marks w s x) 0 z)
-          | inr some ↦ elim (cases_lt x e) [
-            | inl h ↦ rw (lt-ltb x bound (omega (arith, was.0)), lt-ltb x e h)
-            | inr h ↦ elim (cases_lt x bound) [
-              | inl b ↦ absurd (some (gap x (omega arith) b))
-              | inr b ↦ rw (le-ltb x bound b, le-ltb x e h)
-            ]
-          ]
-        ]
+    once_then : (x : ℕ) → copies x (take (s.queued - 1) v) ≡ cond (not (eqb (marks v (fewer s p) x) 0) && ltb x e) 1 0
+    once_then x =
+        once_less (copies x (take s.queued w)) (copies x (take (s.queued - 1) v)) x e (marks w s x) (marks v (fewer s p) x) bound
+        (sum_then (λ y. cond (eqb y x) 1 0)) (q.once x) (λ r z. was.1 (ap (marks w s) (sym r) ∙ z)) (gap x) (same x) was.0
 
     pub in_room : e < s.room
     in_room = mark_some w s.room s.seen e was.1
@@ -113,7 +81,7 @@ module _ (w v : List ℕ) (s : Counters) (e p : ℕ) (l : Listed w s) (level : l
     after : p + one_sided (marks w s e) ≡ s.pending → Queued v (fewer s p) e
     after is = record {
       heaped = got.ordered q.heaped;
-      once = once_less;
+      once = once_then;
       pending =
           omega (arith, is, q.pending, sum_then (λ y. one_sided (marks w s y)), sum_same (λ y. one_sided (marks w s y)) (λ y. one_sided (marks v (fewer s p) y)) (λ x. ap one_sided (same x)) (take (s.queued - 1) v));
     }
