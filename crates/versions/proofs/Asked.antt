@@ -6,16 +6,15 @@ use Rattle.events.specs.Parts.{StoredEvent}
 use Rattle.versions.specs.Versions.{Head, InVersion, head, parent, OnlyIn}
 use Rattle.versions.specs.Difference.{Known, Differ}
 use Rattle.versions.specs.Questions.{OneBehind}
-use Rattle.versions.proofs.Sets.{some_is, nth_below}
 
 none_head : (x k : ℕ) → slice_get [] k ≡ Some x → ⊥
-none_head x k h = omega (arith, nth_below [] k x h)
+none_head x k h = cc
 
 pub known_none : (count : ℕ) → Known count []
 known_none count x h = absurd (none_head x h.0 h.1)
 
 pub known_one : (count x : ℕ) → x < count → Known count (x ∷ [])
-known_one count x low y (zero, h) = subst (λ z. z < count) (some_is h) low
+known_one count x low y (zero, h) = let q : x ≡ y = cc in omega arith
 known_one count x low y (suc k, h) = absurd (none_head y k h)
 
 module _ {es : List StoredEvent} where
@@ -33,7 +32,7 @@ module _ {es : List StoredEvent} where
 
   -- a version that has an event has that event's version
   within : {hs : List ℕ} (y : ℕ) {x : ℕ} → InVersion es (y ∷ []) x → InVersion es hs y → InVersion es hs x
-  within {hs} y (head {x} (zero, h) l) j = subst (InVersion es hs) (some_is h) j
+  within {hs} y (head {x} (zero, h) l) j = let q : y ≡ x = cc in subst (InVersion es hs) q j
   within y (head {x} (suc k, h) l) j = absurd (none_head x k h)
   within y (parent i p) j = parent (within y i j) p
 
@@ -72,7 +71,7 @@ module _ (es : List StoredEvent) (xs out new : List ℕ) (a b : ℕ) (some : 1 �
   rest_only nz (zero, zero, x, y, h) = absurd (omega (arith, h.apart))
   rest_only nz (zero, suc j, x, y, h) =
       let first = d.firsts.only 0 (omega arith) in
-      let is : x ≡ get_or xs 0 0 = some_is (sym h.earlier) in
+      let is : x ≡ get_or xs 0 0 = cc h.earlier in
       absurd (first.1 (within (get_or xs 0 0) first.0 (subst (InVersion es (later xs)) is (from_head y (j, h.later) h.behind))))
   rest_only nz (suc i, zero, x, y, h) = absurd (omega (arith, h.apart))
   rest_only nz (suc i, suc j, x, y, h) = (i, j, x, y, record { apart = omega (arith, h.apart); earlier = h.earlier; later = h.later; behind = h.behind })

@@ -1,6 +1,7 @@
 -- What is behind an event by name, in the log of a store's events.
-use Rattle.std.proofs.Common.{◌≡◌, ℕ, zero, suc, ◌<◌, List, [], ◌∷◌, map, length, Some, None, sym, refl, ap, ◌∙◌, subst, inl, inr, arith}
+use Rattle.std.proofs.Common.{◌≡◌, ℕ, zero, suc, List, [], ◌∷◌, map, Some, sym, refl, ap, ◌∙◌, subst, inl, inr}
 use Rattle.std.specs.List.{slice_get}
+use Rattle.std.proofs.lemmas.Option.{slice_get_within}
 use Rattle.events.specs.declared.name.Name.{Name}
 use Rattle.events.specs.Parts.{NamedEvent, StoredEvent}
 use Rattle.events.specs.WellFormed.{WellFormed}
@@ -12,18 +13,7 @@ use Rattle.versions.specs.Versions.{InVersion}
 use Rattle.versions.specs.Named.{names_of}
 use Rattle.versions.proofs.Reached.{by_head, by_parent}
 
-some_is : {X : Type 0} {x y : X} → Some x ≡ Some y → x ≡ y
-some_is e = cc
-
-none_some : {X : Type 0} {x : X} → None ≡ Some x → ⊥
-none_some e = let z : ◌≡◌ {A = ℕ} 0 1 = cc in omega arith
-
 -- ---- numbers and names
-
-pub place_below : {X : Type 0} (xs : List X) (n : ℕ) (x : X) → slice_get xs n ≡ Some x → n < length xs
-place_below [] n x h = absurd (none_some h)
-place_below (y ∷ xs) zero x h = omega arith
-place_below (y ∷ xs) (suc n) x h = let l = place_below xs n x h in omega arith
 
 pub place_of : {X : Type 0} (xs : List X) (x : X) → x ∈ xs → (k : ℕ) × (slice_get xs k ≡ Some x)
 place_of [] x i = elim i [ ]
@@ -31,8 +21,8 @@ place_of (y ∷ xs) x (inl e) = (0, ap Some (sym e))
 place_of (y ∷ xs) x (inr i) = let r = place_of xs x i in (suc r.0, r.1)
 
 name_of : (es : List StoredEvent) (n : ℕ) (e : StoredEvent) → slice_get es n ≡ Some e → name_at (map (λ d. d.name) es) n ≡ e.name ∷ []
-name_of [] n e h = absurd (none_some h)
-name_of (d ∷ es) zero e h = ap (λ (c : StoredEvent). c.name ∷ []) (some_is h)
+name_of [] n e h = cc
+name_of (d ∷ es) zero e h = let q : d ≡ e = cc in ap (λ (c : StoredEvent). c.name ∷ []) q
 name_of (d ∷ es) (suc n) e h = name_of es n e h
 
 named_at : (es : List StoredEvent) (n : ℕ) (x : Name) → x ∈ name_at (map (λ d. d.name) es) n → (e : StoredEvent) × (slice_get es n ≡ Some e) × (e.name ≡ x)
@@ -42,9 +32,10 @@ named_at (d ∷ es) zero x (inr i) = elim i [ ]
 named_at (d ∷ es) (suc n) x i = named_at es n x i
 
 pub in_names : (es : List StoredEvent) (ps : List ℕ) (k p : ℕ) (e : StoredEvent) → slice_get ps k ≡ Some p → slice_get es p ≡ Some e → e.name ∈ names_of es ps
-in_names es [] k p e h at = absurd (none_some h)
+in_names es [] k p e h at = cc
 in_names es (q ∷ ps) zero p e h at =
-    in_left (name_at (map (λ d. d.name) es) q) (names_of es ps) e.name (subst (λ (l : List Name). e.name ∈ l) (sym (ap (name_at (map (λ d. d.name) es)) (some_is h) ∙ name_of es p e at)) (inl refl))
+    let same : q ≡ p = cc in
+    in_left (name_at (map (λ d. d.name) es) q) (names_of es ps) e.name (subst (λ (l : List Name). e.name ∈ l) (sym (ap (name_at (map (λ d. d.name) es)) same ∙ name_of es p e at)) (inl refl))
 in_names es (q ∷ ps) (suc k) p e h at = in_right (name_at (map (λ d. d.name) es) q) (names_of es ps) e.name (in_names es ps k p e h at)
 
 pub from_names : (es : List StoredEvent) (ps : List ℕ) (x : Name) → x ∈ names_of es ps → (k : ℕ) × (p : ℕ) × (e : StoredEvent) × (slice_get ps k ≡ Some p) × (slice_get es p ≡ Some e) × (e.name ≡ x)
@@ -91,4 +82,4 @@ module _ (es : List StoredEvent) (fit : WellFormed es) (heads : List ℕ) where
   pub head_held : (x : Name) → x ∈ names_of es heads → (m : ℕ) × (d : StoredEvent) × (slice_get es m ≡ Some d) × (d.name ≡ x) × InVersion es heads m
   head_held x i =
       let r = from_names es heads x i in
-      (r.1, r.2, r.4, r.5, by_head es heads r.1 r.0 r.3 (place_below es r.1 r.2 r.4))
+      (r.1, r.2, r.4, r.5, by_head es heads r.1 r.0 r.3 (slice_get_within es r.1 r.2 r.4))

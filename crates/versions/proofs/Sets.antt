@@ -1,20 +1,15 @@
 -- Marking one event after another, as far as a list of answers goes.
-use Rattle.std.proofs.Common.{◌≡◌, ℕ, zero, suc, ◌+◌, ◌<◌, ◌≤◌, ◌⊎◌, ◌↔◌, List, [], ◌∷◌, length, Some, None, Option, sym, refl, ap, ◌∙◌, subst, inl, inr, arith}
+use Rattle.std.proofs.Common.{◌≡◌, ℕ, ◌+◌, ◌<◌, ◌≤◌, ◌⊎◌, ◌↔◌, List, length, Some, None, Option, sym, refl, ap, ◌∙◌, subst, inl, inr, arith}
 use Rattle.std.specs.List.{slice_get}
 use Rattle.std.specs.Option.{option_map, option_flatten}
 use Rattle.std.proofs.lemmas.Bool.{cases_eq}
+use Rattle.std.proofs.lemmas.Option.{slice_get_within}
 use Rattle.events.specs.Parts.{StoredEvent}
 use Rattle.stores.specs.Questions.{parents_at, parent_at}
 use Rattle.versions.specs.declared.counters.Counters.{Counters}
 use Rattle.versions.specs.Versions.{Head, Parent}
 use Rattle.versions.specs.Searches.{marks, Listed, Noted, Among}
 use Rattle.versions.proofs.Joins.{spread_more}
-
-pub some_is : {x y : ℕ} → Some x ≡ Some y → x ≡ y
-some_is e = cc
-
-none_some : {x : ℕ} → None ≡ Some x → ⊥
-none_some e = let z : ◌≡◌ {A = ℕ} 0 1 = cc in omega arith
 
 module _ {m : ℕ} {w : List ℕ} {s : Counters} where
   pub noted_none : (f : ℕ → Option ℕ) → Listed w s → Noted (Among f 0) m w s w s
@@ -54,7 +49,7 @@ module _ {m : ℕ} {w : List ℕ} {s : Counters} where
 
       back : (x : ℕ) → Among f (k + 1) x → Among f k x ⊎ (x ≡ e)
       back x h = elim (cases_eq h.0 k) [
-        | inl q ↦ inr (some_is (sym h.2 ∙ ap f q ∙ at))
+        | inl q ↦ let own = h.2 in inr cc
         | inr n ↦ inl (h.0, omega (arith, h.1), h.2)
       ]
 
@@ -76,16 +71,11 @@ module _ {m : ℕ} {w : List ℕ} {s : Counters} where
     kept = a.kept;
   }
 
-pub nth_below : (xs : List ℕ) (n x : ℕ) → slice_get xs n ≡ Some x → n < length xs
-nth_below [] n x h = absurd (none_some h)
-nth_below (y ∷ xs) zero x h = omega arith
-nth_below (y ∷ xs) (suc n) x h = let l = nth_below xs n x h in omega arith
-
 pub all_heads : (xs : List ℕ) (k : ℕ) → length xs ≤ k → (x : ℕ) → Among (slice_get xs) k x ↔ Head xs x
-all_heads xs k long x = ((λ h. (h.0, h.2)), (λ h. (h.0, omega (arith, nth_below xs h.0 x h.1), h.1)))
+all_heads xs k long x = ((λ h. (h.0, h.2)), (λ h. (h.0, omega (arith, slice_get_within xs h.0 x h.1), h.1)))
 
 pub from_parents : (o : Option StoredEvent) (k p : ℕ) → option_flatten (option_map (λ ps. slice_get ps k) (option_map (λ (e : StoredEvent). e.parents) o)) ≡ Some p → (e : StoredEvent) × (o ≡ Some e) × (slice_get e.parents k ≡ Some p)
-from_parents None k p h = absurd (none_some h)
+from_parents None k p h = cc
 from_parents (Some e) k p h = (e, refl, h)
 
 -- the parents of an event, as the list of its parents
