@@ -1,6 +1,7 @@
 -- What the difference of two versions answers, and why it is refused.
 --     Known          every head is the number of an event
 --     FirstUnknown   the first head that is not
+--     HeadsTested    the answer of a test of heads
 --     Enough         the lists are long enough
 --     Refused        why a call is refused
 --     Admitted       the answer of a test of the arguments
@@ -21,6 +22,17 @@ Known count heads = (x : ℕ) → Head heads x → x < count
 abbrev pub FirstUnknown : ℕ → List ℕ → Option ℕ → Type 0
 FirstUnknown count heads None = Known count heads
 FirstUnknown count heads (Some k) = (x : ℕ) × (slice_get heads k ≡ Some x) × (count ≤ x) × ((j y : ℕ) → j < k → slice_get heads j ≡ Some y → y < count)
+
+-- each head is the number of an event, or else the place of the first that is not
+abbrev pub HeadsTested : ℕ → List ℕ → Result (Unit {0}) EventFault → Type 0
+HeadsTested count heads (Ok u) = Known count heads
+HeadsTested count heads (Err (EventFault.Unknown k)) = FirstUnknown count heads (Some k)
+HeadsTested count heads (Err (EventFault.File f)) = ⊥
+HeadsTested count heads (Err (EventFault.Name k)) = ⊥
+HeadsTested count heads (Err (EventFault.Character k)) = ⊥
+HeadsTested count heads (Err (EventFault.Held k)) = ⊥
+HeadsTested count heads (Err (EventFault.Clash k)) = ⊥
+HeadsTested count heads (Err (EventFault.Parents k)) = ⊥
 
 -- the work list and the output have the cells that a call wants
 abbrev pub Enough : ℕ → ℕ → ℕ → ℕ → Type 0

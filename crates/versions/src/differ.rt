@@ -1,6 +1,6 @@
 //! The difference of two versions of a store.
 ghost use Rattle.std.specs.Prelude.{◌≡◌, ℕ, ◌+◌, ◌-◌, ◌*◌, ◌<◌, ◌≤◌, length, drop, slice_index};
-ghost use Rattle.versions.specs.Difference.{Admitted, Differ, Difference, FirstUnknown, Known};
+ghost use Rattle.versions.specs.Difference.{Admitted, Differ, Difference, FirstUnknown, HeadsTested, Known};
 
 use crate::run::search;
 use crate::search::Search;
@@ -12,6 +12,16 @@ fn unknown_head(heads: &[u16], count: usize) -> Option<usize>
     ensures answer { FirstUnknown count heads.now result }
 {
     heads.iter().position(|head| *head as usize >= count)
+}
+
+// Refuses heads of which one is no event.
+fn test_heads(heads: &[u16], count: usize) -> Result<(), EventFault>
+    ensures answer { HeadsTested count heads.now result }
+{
+    match unknown_head(heads, count) {
+        Some(event) => Err(EventFault::Unknown { event }),
+        None => Ok(()),
+    }
 }
 
 // Copies the events of the second version alone behind those of the first alone.
@@ -45,12 +55,8 @@ pub(crate) fn admit<S: EventStore>(
     if long < count {
         return Err(BookFault::Short { needed: count });
     }
-    if let Some(event) = unknown_head(first, count) {
-        return Err(BookFault::Event(EventFault::Unknown { event }));
-    }
-    if let Some(event) = unknown_head(second, count) {
-        return Err(BookFault::Event(EventFault::Unknown { event }));
-    }
+    test_heads(first, count)?;
+    test_heads(second, count)?;
     Ok(())
 }
 
