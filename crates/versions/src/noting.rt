@@ -28,7 +28,8 @@ impl Search<'_> {
         }
     }
 
-    // Marks an event besides, and queues it where it had no mark. In line, as the next, it leaves the counters in registers.
+    // Marks an event besides, and queues it where it had no mark. This and the next are in line, for speed: the
+    // counters then stay in registers.
     #[tactic(auto, using(crate::proofs::Queues::seen_le))]
     #[inline(always)]
     pub(crate) fn note(&mut self, event: usize, mark: Mark)
@@ -43,6 +44,7 @@ impl Search<'_> {
             self.counters.pending = s.pending + new.alone() - old.alone();
             return;
         }
+        // the list is written by itself, since it fits the counters again only at the end
         let work = &mut *self.work;
         work[3 * s.room + event] = mark.number();
         work[s.room + event] = s.seen as u32;
