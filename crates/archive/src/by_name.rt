@@ -4,7 +4,8 @@ ghost use Rattle.std.proofs.Common.{rules};
 use events::{Name, SiblingOrder};
 use queue::order::TotalOrder;
 
-// Names, the one that comes before the others first.
+// Names, the one that comes before the others first. The traits stay two: a sibling order is of names alone, has a
+// type number, and knows of no queue.
 #[derive_where(Clone, Copy)]
 pub struct ByName<'a, O> {
     pub order: &'a O,

@@ -1,4 +1,5 @@
-//! Making the parts of an event: each is tested here, and nowhere else.
+//! Making the parts of an event: each is tested here, and nowhere else. They are made by `new`, which says what of a
+//! number; a `try_from` beside it would be a second door to the same test.
 ghost use Rattle.std.specs.Prelude.{◌≡◌, [], length};
 ghost use Rattle.events.specs.Made.{NameMade, CharacterMade, PositionMade, ParentsMade, ParentPushed};
 ghost use Rattle.events.specs.Parts.{numbers_of};

@@ -1,4 +1,5 @@
-//! Small files word by word, and what reading them answers.
+//! Small files word by word, and what reading them answers. The words are numbers, as the format has them, so that no
+//! table of the reader is in the test.
 #![tactic(auto)]
 
 use event_file::{FileView, Reason};

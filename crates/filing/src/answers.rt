@@ -1,4 +1,6 @@
-//! Reading for one of the two orders, and what is said of it.
+//! Reading for one of the two orders, and what is said of it. Here a word becomes a type, of which the laws of an order
+//! are proved: a closure would have to take any type. Memory, bytes and order are given to one call each, and no struct
+//! would hold them any longer.
 ghost use Rattle.event_file.specs.Answers.{ReadAnswer, RefileAnswer};
 ghost use Rattle.filing.specs.Ordered.{type_of};
 

@@ -10,6 +10,7 @@ pub enum Effect {
 }
 
 /// Where the character hangs in the tree: on the right of the root, or beside another character.
+// No option: every character hangs somewhere, and the root is somewhere.
 #[derive(Clone, Copy, Debug, PartialEq, Eq)]
 pub enum Attachment {
     Root,

@@ -14,6 +14,7 @@ fn name(number: u32) -> Name
     Name { author: 7, number }
 }
 
+// The tests of a crate stand alone, so this stands in those of two.
 fn delete(name: Name, parents: &[u16]) -> NumberedEvent {
     Event {
         name,

@@ -1,4 +1,5 @@
-//! What changes the tree of an AVL index.
+//! What changes the tree of an AVL index. That a call keeps the room is a clause of each: it is a fact of two values,
+//! before and after, which the invariant of one cannot say.
 ghost use Rattle.std.specs.Prelude.{◌≡◌, ◌<◌, ◌≤◌, false, length, nat_lt};
 ghost use Rattle.avl.specs.Avl.{avl_entries};
 ghost use Rattle.avl_tree.specs.Changes.{applied};

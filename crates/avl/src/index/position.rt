@@ -51,6 +51,7 @@ impl PositionIndex for AvlIndex {
     }
 
     fn present_before(&self, place: usize) -> Option<usize> {
+        // no list is read at the place: below it stands a number for any place
         if place > self.nodes.len() {
             return None;
         }
