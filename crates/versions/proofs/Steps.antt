@@ -8,8 +8,9 @@ use Rattle.versions.specs.declared.counters.Counters.{Counters}
 use Rattle.versions.specs.declared.search.Search.{Search}
 use Rattle.versions.specs.declared.marks.Mark.{Mark}
 use Rattle.versions.specs.Versions.{Parent, parent, Enumerates}
-use Rattle.versions.specs.Marks.{Marked, number_of, one_sided, told}
+use Rattle.versions.specs.Marks.{Marked, one_sided, told}
 use Rattle.versions.specs.Searches.{marks, copies, open_in, Queued, Taken, Written, Noted, Knows, Stage, Stepped}
+use Rattle.versions.specs.Held.{NotedBy, StageOf, TakenBy, WrittenBy, mark_held}
 use Rattle.versions.proofs.Reached.{parent_less, enumerates_same}
 use Rattle.versions.proofs.Cells.{mark_kept}
 use Rattle.versions.proofs.Queues.{seen_le, heaped_same}
@@ -226,13 +227,13 @@ module _ (es : List StoredEvent) (first second w out : List ℕ) (s : Counters) 
     }
 
 -- the three calls of a step: the search before them, and after each
-module _ (es : List StoredEvent) (s t u : Search) (out new : List ℕ) (e : ℕ) (m : Mark) (long : length es ≤ length out) (is : told (marks s.work.now s.counters e) ≡ Some m) (tk : Taken s.work.now s.counters t.work.now t.counters e (marks s.work.now s.counters e)) (wr : Written t.work.now out t.counters e (number_of m) u.work.now new u.counters) (first second : List ℕ) (bound : ℕ) (st : Stage es first second s.work.now out s.counters bound) where
+module _ (es : List StoredEvent) (s t u : Search) (out new : List ℕ) (e : ℕ) (m : Mark) (long : length es ≤ length out) (is : told (mark_held s e) ≡ Some m) (tk : TakenBy e s t) (wr : WrittenBy e m t out u new) (first second : List ℕ) (bound : ℕ) (st : StageOf es first second s out bound) where
   pub placed : Between es s.work.now out s.counters e u.work.now new u.counters
-  placed = between es first second s.work.now out s.counters bound e (marks s.work.now s.counters e) t.work.now t.counters st long tk u.work.now new u.counters (told_written (marks s.work.now s.counters e) m (sym is) wr)
+  placed = between es first second s.work.now out s.counters bound e (mark_held s e) t.work.now t.counters st long tk u.work.now new u.counters (told_written (mark_held s e) m (sym is) wr)
 
-  module _ (fit : WellFormed es) (n : Search) (nt : Noted (Parent es e) (number_of m) u.work.now u.counters n.work.now n.counters) where
-    pub next_stage : Stage es first second n.work.now new n.counters e
-    next_stage = staged es first second s.work.now out s.counters bound e (marks s.work.now s.counters e) t.work.now t.counters st long tk fit u.work.now new u.counters placed n.work.now n.counters (told_noted (marks s.work.now s.counters e) m (sym is) nt)
+  module _ (fit : WellFormed es) (n : Search) (nt : NotedBy (Parent es e) m u n) where
+    pub next_stage : StageOf es first second n new e
+    next_stage = staged es first second s.work.now out s.counters bound e (mark_held s e) t.work.now t.counters st long tk fit u.work.now new u.counters placed n.work.now n.counters (told_noted (mark_held s e) m (sym is) nt)
 
     pub one_less : Stepped s.counters out n.counters new
-    one_less = stepped es first second s.work.now out s.counters bound e (marks s.work.now s.counters e) t.work.now t.counters st long tk fit u.work.now new u.counters placed n.work.now n.counters (told_noted (marks s.work.now s.counters e) m (sym is) nt)
+    one_less = stepped es first second s.work.now out s.counters bound e (mark_held s e) t.work.now t.counters st long tk fit u.work.now new u.counters placed n.work.now n.counters (told_noted (mark_held s e) m (sym is) nt)

@@ -10,6 +10,7 @@ use Rattle.versions.specs.declared.counters.Counters.{Counters}
 use Rattle.versions.specs.declared.search.Search.{Search}
 use Rattle.versions.specs.Marks.{one_sided, told}
 use Rattle.versions.specs.Searches.{marks, copies, Listed, Queued, Taken}
+use Rattle.versions.specs.Held.{QueueHeld, mark_held}
 use Rattle.versions.proofs.Cells.{mark_kept, mark_some}
 use Rattle.versions.proofs.Counts.{marked_same, once_less, once_there}
 use Rattle.versions.proofs.Queues.{at_behind, seen_le, once_in, pending_le, share}
@@ -101,14 +102,14 @@ module _ (w v : List ℕ) (s : Counters) (e p : ℕ) (l : Listed w s) (level : l
 pub record Left (s : Search) (v : List ℕ) (e : ℕ) : Type 0 where
   pub listed : Listed v (fewer s.counters s.counters.pending)
   pub inside : e < s.counters.room
-  pub marked : marks s.work.now s.counters e ≡ 0 → ⊥
-  pub told_same : told (marks v (fewer s.counters s.counters.pending) e) ≡ told (marks s.work.now s.counters e)
-  pub taken : (x : ℕ) → x ≡ one_sided (marks s.work.now s.counters e) → Taken s.work.now s.counters v (fewer s.counters (s.counters.pending - x)) e (marks s.work.now s.counters e)
+  pub marked : mark_held s e ≡ 0 → ⊥
+  pub told_same : told (marks v (fewer s.counters s.counters.pending) e) ≡ told (mark_held s e)
+  pub taken : (x : ℕ) → x ≡ one_sided (mark_held s e) → Taken s.work.now s.counters v (fewer s.counters (s.counters.pending - x)) e (mark_held s e)
 
-pub some_queued : (s : Search) → ((bound : ℕ) × Queued s.work.now s.counters bound) × (0 < s.counters.pending) → 0 < s.counters.queued
+pub some_queued : (s : Search) → ((bound : ℕ) × QueueHeld s bound) × (0 < s.counters.pending) → 0 < s.counters.queued
 some_queued s q = omega (arith, pending_le s.work.now s.counters s.listed q.0.0 q.0.1, q.1)
 
-pub left : (s : Search) (v : List ℕ) (e : ℕ) → ((bound : ℕ) × Queued s.work.now s.counters bound) × (0 < s.counters.pending) → length v ≡ length s.work.now → Popped (λ a b. ltb b a) s.work.now s.counters.queued e v → Left s v e
+pub left : (s : Search) (v : List ℕ) (e : ℕ) → ((bound : ℕ) × QueueHeld s bound) × (0 < s.counters.pending) → length v ≡ length s.work.now → Popped (λ a b. ltb b a) s.work.now s.counters.queued e v → Left s v e
 left s v e q level got =
     let w = s.work.now in
     let at = s.counters in

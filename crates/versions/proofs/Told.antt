@@ -8,7 +8,8 @@ use Rattle.versions.specs.declared.search.Search.{Search}
 use Rattle.versions.specs.declared.marks.Mark.{Mark}
 use Rattle.versions.specs.declared.marks.Mark.TheVariants.{First, Second, Both}
 use Rattle.versions.specs.Marks.{Marked, number_of, told, join, one_sided}
-use Rattle.versions.specs.Searches.{marks, Queued, Noted, Written}
+use Rattle.versions.specs.Searches.{marks, Noted, Written}
+use Rattle.versions.specs.Held.{QueueHeld, mark_held}
 use Rattle.versions.proofs.Queues.{share}
 use Rattle.versions.proofs.Noted.{again, more, put, put_length, remarked, marked_first, room_left}
 
@@ -81,20 +82,20 @@ module _ (k : ℕ) (o : Mark) (is : Some o ≡ told k) where
   }
 
 -- what marking an event leaves, by what its calls answer
-module _ (s : Search) (e : ℕ) (m : Mark) (in' : e < s.counters.room) (q : (bound : ℕ) × (e < bound) × Queued s.work.now s.counters bound) where
-  pub noted_besides : (o n : Mark) (t x y : ℕ) → Some o ≡ told (marks s.work.now s.counters e) → number_of n ≡ join (number_of o) (number_of m) → t ≡ number_of n → x ≡ one_sided (number_of n) → y ≡ one_sided (number_of o) → Noted (λ z. z ≡ e) (number_of m) s.work.now s.counters (set s.work.now (3 * s.counters.room + e) t) (again s.counters ((s.counters.pending + x) - y))
+module _ (s : Search) (e : ℕ) (m : Mark) (in' : e < s.counters.room) (q : (bound : ℕ) × (e < bound) × QueueHeld s bound) where
+  pub noted_besides : (o n : Mark) (t x y : ℕ) → Some o ≡ told (mark_held s e) → number_of n ≡ join (number_of o) (number_of m) → t ≡ number_of n → x ≡ one_sided (number_of n) → y ≡ one_sided (number_of o) → Noted (λ z. z ≡ e) (number_of m) s.work.now s.counters (set s.work.now (3 * s.counters.room + e) t) (again s.counters ((s.counters.pending + x) - y))
   noted_besides o n t x y is joined put new old =
-      let k = marks s.work.now s.counters e in
+      let k = mark_held s e in
       remarked s.work.now s.counters e (number_of m) q.0 s.listed in' (number_some m) q.1 q.2 t x y (told_there k o is) (put ∙ joined ∙ told_joined k o is m) (new ∙ ap one_sided (sym put)) (old ∙ told_alone k o is)
 
-  pub share_in : (o : Mark) (x y : ℕ) → Some o ≡ told (marks s.work.now s.counters e) → y ≡ one_sided (number_of o) → y ≤ s.counters.pending + x
+  pub share_in : (o : Mark) (x y : ℕ) → Some o ≡ told (mark_held s e) → y ≡ one_sided (number_of o) → y ≤ s.counters.pending + x
   share_in o x y is old =
-      omega (arith, old, told_alone (marks s.work.now s.counters e) o is, share s.work.now s.counters s.listed q.0 q.2 e q.1)
+      omega (arith, old, told_alone (mark_held s e) o is, share s.work.now s.counters s.listed q.0 q.2 e q.1)
 
-  pub left_room : None ≡ told (marks s.work.now s.counters e) → s.counters.seen < s.counters.room
-  left_room is = room_left s.work.now s.counters e s.listed in' (told_none (marks s.work.now s.counters e) is)
+  pub left_room : None ≡ told (mark_held s e) → s.counters.seen < s.counters.room
+  left_room is = room_left s.work.now s.counters e s.listed in' (told_none (mark_held s e) is)
 
-  pub noted_first : (t x : ℕ) (v : List ℕ) (b : Bool) → None ≡ told (marks s.work.now s.counters e) → t ≡ number_of m → x ≡ one_sided (number_of m) → length v ≡ length (put s.work.now s.counters e t) → b ≡ ltb s.counters.queued (length (put s.work.now s.counters e t)) → (b ≡ true → Pushed (λ c d. ltb d c) (put s.work.now s.counters e t) s.counters.queued e v) → Noted (λ z. z ≡ e) (number_of m) s.work.now s.counters v (more s.counters (s.counters.pending + x))
+  pub noted_first : (t x : ℕ) (v : List ℕ) (b : Bool) → None ≡ told (mark_held s e) → t ≡ number_of m → x ≡ one_sided (number_of m) → length v ≡ length (put s.work.now s.counters e t) → b ≡ ltb s.counters.queued (length (put s.work.now s.counters e t)) → (b ≡ true → Pushed (λ c d. ltb d c) (put s.work.now s.counters e t) s.counters.queued e v) → Noted (λ z. z ≡ e) (number_of m) s.work.now s.counters v (more s.counters (s.counters.pending + x))
   noted_first t x v b is put' alone level fits pushed =
       let w = s.work.now in
       let at = s.counters in

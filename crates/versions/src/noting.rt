@@ -1,8 +1,8 @@
 //! Marking an event, the heads of a version, and the parents of an event.
 ghost use Rattle.std.specs.Prelude.{◌≡◌, ℕ, ◌<◌, ◌≤◌};
 ghost use Rattle.versions.specs.Versions.{Head, Parent};
-ghost use Rattle.versions.specs.Marks.{number_of, told};
-ghost use Rattle.versions.specs.Searches.{Noted, Queued, marks};
+ghost use Rattle.versions.specs.Marks.{told};
+ghost use Rattle.versions.specs.Held.{NotedBy, QueueHeld, mark_held};
 ghost use Rattle.versions.specs.Difference.{Known};
 
 use crate::counters::Counters;
@@ -17,7 +17,7 @@ impl Search<'_> {
     #[tactic(auto, using(crate::proofs::Queues::seen_le))]
     pub(crate) fn mark_of(&self, event: usize) -> Option<Mark>
         requires { event < self.now.counters.room }
-        ensures answer { result ≡ told (marks self.now.work.now self.now.counters event) }
+        ensures answer { result ≡ told (mark_held self.now event) }
     {
         let s = self.counters;
         let place = self.work[s.room + event] as usize;
@@ -33,9 +33,9 @@ impl Search<'_> {
     #[tactic(auto, using(crate::proofs::Queues::seen_le))]
     #[inline(always)]
     pub(crate) fn note(&mut self, event: usize, mark: Mark)
-        requires queued { (bound : ℕ) × (event < bound) × Queued self.old.work.now self.old.counters bound }
+        requires queued { (bound : ℕ) × (event < bound) × QueueHeld self.old bound }
         requires inside { event < self.old.counters.room }
-        ensures after { Noted (λ x. x ≡ event) (number_of mark) self.old.work.now self.old.counters self.new.work.now self.new.counters }
+        ensures after { NotedBy (λ x. x ≡ event) mark self.old self.new }
     {
         let s = self.counters;
         if let Some(old) = self.mark_of(event) {
@@ -61,8 +61,8 @@ impl Search<'_> {
     // Marks events, as the heads of a version, and queues those that had no mark.
     #[inline(always)]
     pub(crate) fn note_all(&mut self, events: &[u16], mark: Mark)
-        requires queued { (bound : ℕ) × (bound ≤ self.old.counters.room) × Known bound events.now × Queued self.old.work.now self.old.counters bound }
-        ensures after { Noted (Head events.now) (number_of mark) self.old.work.now self.old.counters self.new.work.now self.new.counters }
+        requires queued { (bound : ℕ) × (bound ≤ self.old.counters.room) × Known bound events.now × QueueHeld self.old bound }
+        ensures after { NotedBy (Head events.now) mark self.old self.new }
     {
         for event in events {
             self.note(*event as usize, mark);
@@ -71,9 +71,9 @@ impl Search<'_> {
 
     // Marks the parents of an event, and queues those that had no mark.
     pub(crate) fn note_parents<S: EventStore>(&mut self, store: &S, event: usize, mark: Mark)
-        requires queued { Queued self.old.work.now self.old.counters event }
+        requires queued { QueueHeld self.old event }
         requires inside { event < self.old.counters.room }
-        ensures after { Noted (Parent (S.EventStore.events store.now) event) (number_of mark) self.old.work.now self.old.counters self.new.work.now self.new.counters }
+        ensures after { NotedBy (Parent (S.EventStore.events store.now) event) mark self.old self.new }
     {
         if let Some(parents) = store.parents(event) {
             self.note_all(parents.as_slice(), mark);

@@ -1,6 +1,7 @@
 //! The search from the heads of two versions, the latest event first.
 ghost use Rattle.std.specs.Prelude.{◌≡◌, ℕ, ◌*◌, ◌<◌, ◌≤◌, List, length, drop};
-ghost use Rattle.versions.specs.Searches.{Stage, Stepped, Started};
+ghost use Rattle.versions.specs.Searches.{Stepped, Started};
+ghost use Rattle.versions.specs.Held.{StageOf};
 ghost use Rattle.versions.specs.Difference.{Known};
 
 use crate::counters::Counters;
@@ -31,9 +32,9 @@ impl<'a> Search<'a> {
 
     // Takes the latest event from the queue, writes it down, and marks its parents as it is marked.
     fn step<S: EventStore>(&mut self, store: &S, out: &mut [u32])
-        requires stage { (first : List ℕ) × (second : List ℕ) × (bound : ℕ) × Stage (S.EventStore.events store.now) first second self.old.work.now out.old self.old.counters bound }
+        requires stage { (first : List ℕ) × (second : List ℕ) × (bound : ℕ) × StageOf (S.EventStore.events store.now) first second self.old out.old bound }
         requires room { (length (S.EventStore.events store.now) ≤ length out.old) × (0 < self.old.counters.pending) }
-        ensures after { (first second : List ℕ) (bound : ℕ) → Stage (S.EventStore.events store.now) first second self.old.work.now out.old self.old.counters bound → (below : ℕ) × Stage (S.EventStore.events store.now) first second self.new.work.now out.new self.new.counters below }
+        ensures after { (first second : List ℕ) (bound : ℕ) → StageOf (S.EventStore.events store.now) first second self.old out.old bound → (below : ℕ) × StageOf (S.EventStore.events store.now) first second self.new out.new below }
         ensures kept { Stepped self.old.counters out.old self.new.counters out.new }
     {
         let (event, mark) = self.take_latest();
@@ -52,7 +53,7 @@ pub(crate) fn search<'a, S: EventStore>(
 ) -> Search<'a>
     requires sized { (4 * S.EventStore.room store.now ≤ length work.old) × (length (S.EventStore.events store.now) ≤ length out.old) }
     requires known { (Known (length (S.EventStore.events store.now)) first.now) × (Known (length (S.EventStore.events store.now)) second.now) }
-    ensures after { (bound : ℕ) × Stage (S.EventStore.events store.now) first.now second.now result.work.now out.new result.counters bound }
+    ensures after { (bound : ℕ) × StageOf (S.EventStore.events store.now) first.now second.now result out.new bound }
     ensures done { (result.counters.pending ≡ 0) × (result.counters.room ≡ S.EventStore.room store.now) }
     ensures kept { drop result.counters.first out.new ≡ drop result.counters.first out.old }
 {

@@ -1,7 +1,7 @@
 //! One step of a search: the latest event of the queue.
 ghost use Rattle.std.specs.Prelude.{◌≡◌, ℕ, ◌<◌, length, Some};
-ghost use Rattle.versions.specs.Marks.{number_of, told};
-ghost use Rattle.versions.specs.Searches.{Queued, Taken, Written, marks};
+ghost use Rattle.versions.specs.Marks.{told};
+ghost use Rattle.versions.specs.Held.{QueueHeld, TakenBy, WrittenBy, mark_held};
 
 use crate::marks::Mark;
 use crate::search::Search;
@@ -11,9 +11,9 @@ use queue::order::LatestFirst;
 impl Search<'_> {
     // Takes the latest event from the queue, with its mark. Something is queued, since something is pending.
     pub(crate) fn take_latest(&mut self) -> (u32, Mark)
-        requires queued { (((bound : ℕ) × Queued self.old.work.now self.old.counters bound)) × (0 < self.old.counters.pending) }
-        ensures marked { told (marks self.old.work.now self.old.counters result.0) ≡ Some result.1 }
-        ensures after { Taken self.old.work.now self.old.counters self.new.work.now self.new.counters result.0 (marks self.old.work.now self.old.counters result.0) }
+        requires queued { ((bound : ℕ) × QueueHeld self.old bound) × (0 < self.old.counters.pending) }
+        ensures marked { told (mark_held self.old result.0) ≡ Some result.1 }
+        ensures after { TakenBy result.0 self.old self.new }
     {
         let Some(event) = pop(self.work, self.counters.queued, &LatestFirst) else {
             unreachable!()
@@ -30,7 +30,7 @@ impl Search<'_> {
     // back of the queue's area, backwards.
     pub(crate) fn write_down(&mut self, out: &mut [u32], event: u32, mark: Mark)
         requires { (self.old.counters.first < length out.old) × (self.old.counters.second < self.old.counters.room) }
-        ensures after { Written self.old.work.now out.old self.old.counters event (number_of mark) self.new.work.now out.new self.new.counters }
+        ensures after { WrittenBy event mark self.old out.old self.new out.new }
     {
         let s = self.counters;
         match mark {

@@ -1,11 +1,11 @@
 -- The stage reached, and what the output keeps.
 use Rattle.std.proofs.Common.{◌≡◌, ℕ, ◌+◌, ◌-◌, drop}
-use Rattle.versions.specs.Searches.{Stage}
+use Rattle.versions.specs.Held.{StageOf}
 use Rattle.versions.proofs.run.search.Given as goal
 
 abbrev pub invariant-loop-search : goal.invariant-loop-search
 invariant-loop-search g l = record {
-  stage : (bound : ℕ) × Stage (g.S.EventStore.events l.store) l.first l.second l.search.work.now l.out l.search.counters bound;
+  stage : (bound : ℕ) × StageOf (g.S.EventStore.events l.store) l.first l.second l.search l.out bound;
   room : l.search.counters.room ≡ g.S.EventStore.room l.store;
   kept : drop l.search.counters.first l.out ≡ drop l.search.counters.first l.initial.out;
 }

@@ -3,7 +3,7 @@ use Rattle.std.proofs.Common.{length, sym, ◌∙◌, arith}
 use borrow.Author.Clash.{clash}
 use Rattle.std.proofs.lemmas.Bool.{and_from, lt-ltb, le-leb}
 use Rattle.queue.specs.Heaps.{queued}
-use Rattle.versions.specs.Searches.{marks}
+use Rattle.versions.specs.Held.{mark_held}
 use Rattle.versions.proofs.Queues.{seen_le}
 use Rattle.versions.proofs.Taken.{some_queued, left}
 use Rattle.versions.proofs.Told.{told_none, told_alone}
@@ -26,7 +26,7 @@ pub unreachable-requires-in_default-mark_of : goal.unreachable-requires-in_defau
 unreachable-requires-in_default-mark_of c =
     let s = c.args.self.now in
     let h = left s c.pop.new.cells c.in-Some.event c.requires.queued c.pop.auto.cells c.in-Some.ensures.after in
-    h.marked (told_none (marks s.work.now s.counters c.in-Some.event) (c.in_default-mark_of.ensures.answer ∙ h.told_same))
+    h.marked (told_none (mark_held s c.in-Some.event) (c.in_default-mark_of.ensures.answer ∙ h.told_same))
 
 pub returns-clause-marked : goal.returns-clause-marked
 returns-clause-marked c =
@@ -38,4 +38,4 @@ returns-clause-after c =
     let s = c.args.self.now in
     let e = c.in-Some.event in
     let h = left s c.pop.new.cells e c.requires.queued c.pop.auto.cells c.in-Some.ensures.after in
-    h.taken c.alone.result (c.alone.ensures.answer ∙ told_alone (marks s.work.now s.counters e) c.in-Some-mark_of.mark (c.in-Some-mark_of.ensures.answer ∙ h.told_same))
+    h.taken c.alone.result (c.alone.ensures.answer ∙ told_alone (mark_held s e) c.in-Some-mark_of.mark (c.in-Some-mark_of.ensures.answer ∙ h.told_same))
