@@ -2,7 +2,7 @@ mod Counting
 mod Stored
 mod Placing
 mod Cells
-mod Held
+mod Asked
 mod Lines
 mod Logs
 mod Writing

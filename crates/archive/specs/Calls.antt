@@ -1,5 +1,5 @@
 -- What the calls within leave.
-use Rattle.std.specs.Prelude.{◌≡◌, ℕ, ◌<◌, ◌≤◌, List, ◌∷◌, length, take, Some, None, Option, ◌≢◌}
+use Rattle.std.specs.Prelude.{◌≡◌, ℕ, ◌<◌, ◌≤◌, List, ◌∷◌, length, take, Some, None, Option, ◌≢◌, slice_index}
 use Rattle.events.specs.declared.name.Name.{Name}
 use Rattle.events.specs.Parts.{StoredEvent}
 use Rattle.stores.specs.Questions.{parent_at}
@@ -10,6 +10,11 @@ use Rattle.archive.specs.Waiting.{Waiting}
 abbrev pub Held : ℕ → ℕ → Option ℕ → Type 0
 Held count cell (Some k) = (k ≡ cell) × (cell < count)
 Held count cell None = count ≤ cell
+
+-- one of the listed events that is not written, or nothing where all are
+abbrev pub OpenOne : ℕ → ℕ → List ℕ → List ℕ → Option ℕ → Type 0
+OpenOne count room cells listed (Some p) = (count ≤ number_of room cells p) × ((k : ℕ) × ((k < length listed) × (slice_index listed k ≡ p)))
+OpenOne count room cells listed None = (k : ℕ) → k < length listed → number_of room cells (slice_index listed k) < count
 
 -- nothing is written, and no line has an event
 abbrev pub Cleared : List ℕ → ℕ → ℕ → Type 0

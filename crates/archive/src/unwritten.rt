@@ -28,13 +28,7 @@ impl<'u, 'w, S: EventStore, O: TotalOrder<Name>> Unwritten<'u, 'w, S, O> {
         ensures answer { Awaited (S.EventStore.events self.now.store.now) (S.EventStore.room self.now.store.now) self.now.work.now.cells.now e result }
     {
         let parents = self.store.parents(e)?;
-        for p in parents.as_slice() {
-            let p = *p as usize;
-            if self.work.number(p).is_none() {
-                return Some(p);
-            }
-        }
-        None
+        self.work.open_one(parents.as_slice())
     }
 
     // Lets event e wait at a parent that is not written, or puts its name into the queue.

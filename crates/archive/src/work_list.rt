@@ -3,7 +3,7 @@
 //! waits at each event, and the event that waits behind each event.
 ghost use Rattle.std.specs.Prelude.{◌≡◌, ℕ, ◌+◌, ◌*◌, ◌<◌, ◌≤◌, length, slice_index, slice_set};
 ghost use Rattle.archive.specs.Parts.{number_of, first_of, behind_of};
-ghost use Rattle.archive.specs.Calls.{Cleared, Held};
+ghost use Rattle.archive.specs.Calls.{Cleared, Held, OpenOne};
 
 // What a lent cell of 32 bits has where it holds no event and no archive number.
 const NONE: u32 = 4_294_967_295;
@@ -46,6 +46,15 @@ impl<'a> WorkList<'a> {
         ensures answer { Held self.now.count (number_of self.now.room self.now.cells.now e) result }
     {
         self.held(self.room + e)
+    }
+
+    // The first of the listed events that is not written, if there is one.
+    pub(crate) fn open_one(&self, listed: &[u16]) -> Option<usize>
+        requires { (k : ℕ) → k < length listed.now → slice_index listed.now k < self.now.room }
+        ensures answer { OpenOne self.now.count self.now.room self.now.cells.now listed.now result }
+    {
+        let open = listed.iter().find(|p| self.number(**p as usize).is_none())?;
+        Some(*open as usize)
     }
 
     // The first event that waits at event p, if one does.
