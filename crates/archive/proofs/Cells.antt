@@ -1,28 +1,22 @@
 -- What the writes to the work list leave in its four parts.
 use Rattle.std.proofs.Common.{◌≡◌, ℕ, ◌+◌, ◌*◌, ◌<◌, ◌≤◌, List, length, get_or, take, set, sym, ap, ◌∙◌, arith, length-set}
-use Rattle.std.proofs.lemmas.List.{get_or-set_same, get_or-set_other, get_or-take}
+use Rattle.std.proofs.lemmas.Grind.{get_or-set_at}
+use Rattle.std.proofs.lemmas.List.{get_or-set_other, get_or-take}
 use Rattle.events.specs.Parts.{StoredEvent}
 use Rattle.events.specs.WellFormed.{WellFormed}
 use Rattle.archive.specs.Parts.{first_of}
 use Rattle.archive.proofs.Placing.{Hung}
 
-module _ (cells : List ℕ) where
-  here : (i j v : ℕ) → j ≡ i → i < length cells → get_or (set cells i v) j 0 ≡ v
-  here i j v e l = ap (λ k. get_or (set cells i v) k 0) e ∙ get_or-set_same cells i v 0 l
-
-  other : (i j v : ℕ) → (j ≡ i → ⊥) → get_or (set cells i v) j 0 ≡ get_or cells j 0
-  other i j v n = get_or-set_other cells i j v 0 n
-
 -- two writes: to another cell, to the first, and to the second
 module _ (cells : List ℕ) (a b u v : ℕ) where
   pub neither : (j : ℕ) → (j ≡ a → ⊥) → (j ≡ b → ⊥) → get_or (set (set cells a u) b v) j 0 ≡ get_or cells j 0
-  neither j m n = other (set cells a u) b j v n ∙ other cells a j u m
+  neither j m n = get_or-set_other (set cells a u) b j v 0 n ∙ get_or-set_other cells a j u 0 m
 
   pub first_write : (j : ℕ) → j ≡ a → (j ≡ b → ⊥) → a < length cells → get_or (set (set cells a u) b v) j 0 ≡ u
-  first_write j m n l = other (set cells a u) b j v n ∙ here cells a j u m l
+  first_write j m n l = get_or-set_other (set cells a u) b j v 0 n ∙ get_or-set_at cells a j u 0 m l
 
   pub second_write : (j : ℕ) → j ≡ b → b < length cells → get_or (set (set cells a u) b v) j 0 ≡ v
-  second_write j m l = here (set cells a u) b j v m (let k = length-set cells a u in omega (arith, k, l))
+  second_write j m l = get_or-set_at (set cells a u) b j v 0 m (let k = length-set cells a u in omega (arith, k, l))
 
 -- the same front is the same cells there
 pub front_cell : (cells cells' : List ℕ) (n i : ℕ) → take n cells' ≡ take n cells → i < n → get_or cells' i 0 ≡ get_or cells i 0

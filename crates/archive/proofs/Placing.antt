@@ -2,6 +2,7 @@
 use Rattle.std.proofs.Common.{◌≡◌, ℕ, suc, ◌+◌, ◌<◌, ◌≤◌, cond, eqb, ◌⊎◌, List, [], ◌∷◌, ◌++◌, length, Some, sym, refl, ap, ◌∙◌, subst, inl, inr, arith}
 use Rattle.std.specs.List.Sorted.{IsPermutation}
 use Rattle.std.proofs.lemmas.Bool.{cases_eq, eq-eqb, ne_eqb, cond-true, cond-false}
+use Rattle.std.proofs.lemmas.Option.{slice_get_within}
 use Rattle.events.specs.declared.name.Name.{Name}
 use Rattle.events.specs.Parts.{StoredEvent}
 use Rattle.events.specs.WellFormed.{WellFormed}
@@ -13,7 +14,7 @@ use Rattle.archive.specs.Times.{times_named, times_numbered}
 use Rattle.archive.specs.Parts.{number_of, first_of, behind_of, Open, Done, ReadyAt, Chain}
 use Rattle.archive.specs.Waiting.{Waiting}
 use Rattle.archive.proofs.Counting.{one_number, one_name, named_shuffled, named_append}
-use Rattle.archive.proofs.Stored.{event_with_parent, nth_below, names_few}
+use Rattle.archive.proofs.Stored.{event_with_parent, names_few}
 
 -- a chain depends only on what stands behind its events
 pub chain_kept : (room : ℕ) (cells cells' : List ℕ) (w : ℕ) (ws : List ℕ) → ((v : ℕ) → 1 ≤ times_numbered ws v → behind_of room cells' v ≡ behind_of room cells v) → Chain room cells w ws → Chain room cells' w ws
@@ -29,7 +30,7 @@ module _ (es : List StoredEvent) (wf : WellFormed es) (room : ℕ) where
   parent_event w k p h =
       let l = parent_below es wf w k p h in
       let r = event_with_parent _ k p h in
-      let m = nth_below es w r.0 r.1 in
+      let m = slice_get_within es w r.0 r.1 in
       omega (arith, l, m)
 
   -- the cells hold the same archive numbers

@@ -3,6 +3,7 @@ use Rattle.std.proofs.Common.{◌≡◌, ℕ, zero, suc, ◌+◌, ◌*◌, ◌<�
 use Rattle.std.specs.List.{AllByRecursion, slice_get}
 use Rattle.std.proofs.lemmas.List.{length-take-le, get_or-take}
 use Rattle.std.proofs.lemmas.Bool.{cases_eq, cases_lt, eq-eqb, ne_eqb, cond-true, cond-false}
+use Rattle.std.proofs.lemmas.Option.{slice_get_within}
 use Rattle.events.specs.declared.name.Name.{Name}
 use Rattle.events.specs.Parts.{NamedEvent, StoredEvent}
 use Rattle.events.specs.WellFormed.{WellFormed}
@@ -18,7 +19,7 @@ use Rattle.archive.specs.Times.{times_named, times_numbered}
 use Rattle.archive.specs.Parts.{number_of, first_of, behind_of, Open, Done, ReadyAt, Chain}
 use Rattle.archive.specs.Waiting.{Waiting}
 use Rattle.archive.proofs.Counting.{one_name, one_number, times_has, fewer_numbers}
-use Rattle.archive.proofs.Stored.{nth_below, name_of}
+use Rattle.archive.proofs.Stored.{name_of}
 use Rattle.archive.proofs.Placing.{chain_kept}
 use Rattle.archive.proofs.Lines.{up_from, length_up, up_within, up_outside}
 use Rattle.archive.proofs.Cells.{neither}
@@ -35,7 +36,7 @@ module _ (before : Name → Name → Bool) (es : List StoredEvent) (wf : WellFor
     name = rw h refl
 
     below : e < length es
-    below = nth_below es e d h
+    below = slice_get_within es e d h
 
     first_kept : (p : ℕ) → first_of room after p ≡ first_of room cells p
     first_kept p = let b = below in neither cells k (room + e) e k (2 * room + p) (λ z. omega (arith, z, less, inside)) (λ z. omega (arith, z, inside, b))
@@ -205,7 +206,7 @@ module _ (before : Name → Name → Bool) (es : List StoredEvent) (wf : WellFor
         let log : AllByRecursion (λ (d : NamedEvent). has names d.name ≡ true) (log_of es) = all_members _ (log_of es) (λ d i.
         let r = from_log es d i in
         let x : name_at es r.0 ≡ Some d.name = rw r.2 (ap (λ (z : NamedEvent). Some z.name) (sym r.3)) in
-        times_has names d.name (w.every r.0 d.name x (done r.0 (nth_below es r.0 r.1 r.2)))) in
+        times_has names d.name (w.every r.0 d.name x (done r.0 (slice_get_within es r.0 r.1 r.2)))) in
         record {
           order = subst (λ m. ArchiveOrder before (log_of es) (in_order es (take m cells))) n (subst (λ l. ArchiveOrder before (log_of es) l) (append-nil (in_order es (take k cells))) (w.path [] log));
           places = λ i l. w.places i (omega (arith, n, l));

@@ -2,6 +2,7 @@
 use Rattle.std.proofs.Common.{◌≡◌, ℕ, ◌+◌, ◌-◌, ◌*◌, ◌<◌, ◌≤◌, Bool, not, List, [], ◌∷◌, ◌++◌, length, take, set, Some, sym, ap, ◌∙◌, subst}
 use Rattle.std.specs.List.{slice_get}
 use Rattle.std.specs.List.Sorted.{IsPermutation}
+use Rattle.std.proofs.lemmas.Option.{slice_get_within}
 use Rattle.events.specs.declared.name.Name.{Name}
 use Rattle.events.specs.Parts.{StoredEvent}
 use Rattle.events.specs.WellFormed.{WellFormed}
@@ -10,7 +11,7 @@ use Rattle.queue.specs.Heaps.{Heaped, Popped}
 use Rattle.archive.specs.Times.{times_named}
 use Rattle.archive.specs.Parts.{first_of}
 use Rattle.archive.specs.Waiting.{Handed, Settled}
-use Rattle.archive.proofs.Stored.{event_with, nth_below}
+use Rattle.archive.proofs.Stored.{event_with}
 use Rattle.archive.proofs.Popping.{popped_count, popped_in, leads_named}
 use Rattle.archive.proofs.Writing.{Written, written_less, next_named, written_more}
 use Rattle.archive.proofs.Releasing.{freed, freed_line}
@@ -37,7 +38,7 @@ step before total es wf room inside cells room4 k w old new len s within heaped 
     let less = written_less before es wf room inside cells w.0 k e x w.1 n next.0.0 in
     let fewer = popped_count (take len old) (take (len - 1) new) d.name (subst (λ y. IsPermutation (take len old) (take (len - 1) new ++ y ∷ [])) (sym same) p.elements) in
     record {
-      below = nth_below es e d h.1;
+      below = slice_get_within es e d h.1;
       less = less;
       written = subst (λ y. Written before es room (set (set cells k e) (room + e) k) (y ∷ w.0) (k + 1)) same (written_more before es wf room inside cells room4 w.0 k e d w.1 h.1 next.0.0 less next.1);
       handed = (

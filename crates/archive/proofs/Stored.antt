@@ -15,11 +15,6 @@ pub event_with : {X : Type 0} (f : StoredEvent → X) (o : Option StoredEvent) (
 event_with f None x h = absurd (none_some h)
 event_with f (Some e) x h = (e, refl, some_is h)
 
-pub nth_below : {X : Type 0} (xs : List X) (n : ℕ) (x : X) → slice_get xs n ≡ Some x → n < length xs
-nth_below [] n x h = absurd (none_some h)
-nth_below (y ∷ xs) zero x h = omega arith
-nth_below (y ∷ xs) (suc n) x h = let l = nth_below xs n x h in omega arith
-
 pub nth_some : {X : Type 0} (xs : List X) (n : ℕ) → n < length xs → (x : X) × (slice_get xs n ≡ Some x)
 nth_some [] n h = absurd (omega arith)
 nth_some (y ∷ xs) zero h = (y, refl)

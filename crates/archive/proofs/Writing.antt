@@ -3,6 +3,7 @@ use Rattle.std.proofs.Common.{◌≡◌, ℕ, ◌+◌, ◌*◌, ◌<◌, ◌≤�
 use Rattle.std.specs.List.{slice_get}
 use Rattle.std.proofs.lemmas.List.{take-take, take_more_set, take-set-le, flat_map_more}
 use Rattle.std.proofs.lemmas.Bool.{both_ways, cases_Bool, cases_eq, cases_lt}
+use Rattle.std.proofs.lemmas.Option.{slice_get_within}
 use Rattle.events.specs.declared.name.Name.{Name}
 use Rattle.events.specs.Parts.{NamedEvent, StoredEvent}
 use Rattle.events.specs.WellFormed.{WellFormed}
@@ -17,7 +18,7 @@ use Rattle.archive.specs.Times.{times_named}
 use Rattle.archive.specs.Parts.{number_of, Open, Done, ReadyAt}
 use Rattle.archive.specs.Waiting.{Waiting}
 use Rattle.archive.proofs.Counting.{one_name, has_times, times_has}
-use Rattle.archive.proofs.Stored.{names_few, name_of, nth_below}
+use Rattle.archive.proofs.Stored.{names_few, name_of}
 use Rattle.archive.proofs.Placing.{parent_event}
 use Rattle.archive.proofs.Cells.{neither, first_write, second_write, front_cell}
 use Rattle.archive.proofs.Logs.{held_log, from_log, parent_number, parent_name}
@@ -166,7 +167,7 @@ module _ (before : Name → Name → Bool) (es : List StoredEvent) (wf : WellFor
     written = set (set cells k e) (room + e) k
 
     below : e < length es
-    below = nth_below es e d h
+    below = slice_get_within es e d h
 
     num_same : number_of room written e ≡ k
     num_same = second_write cells k (room + e) e k (room + e) refl (let b = below in omega (arith, b, inside, room4))
