@@ -14,10 +14,8 @@ fn is_set(flags: &[bool], n: usize) -> bool {
 
 // Flags the parents of event n.
 fn set_parents(store: &MemoryStore, flags: &mut [bool], n: usize) {
-    if let Some(parents) = store.parents(n) {
-        for parent in parents.as_slice() {
-            set(flags, *parent as usize);
-        }
+    for parent in (0..4).filter_map(|k| store.parent(n, k)) {
+        set(flags, parent as usize);
     }
 }
 
@@ -50,12 +48,9 @@ pub fn only(heap: Global, first: &[bool], second: &[bool]) -> Result<Vec<u32>, A
 
 // Whether every parent of event n is flagged.
 fn parents_set(store: &MemoryStore, flags: &[bool], n: usize) -> bool {
-    store.parents(n).is_none_or(|parents| {
-        parents
-            .as_slice()
-            .iter()
-            .all(|parent| is_set(flags, *parent as usize))
-    })
+    (0..4)
+        .filter_map(|k| store.parent(n, k))
+        .all(|parent| is_set(flags, parent as usize))
 }
 
 // Of the unwritten events whose parents are written the one whose name comes first.
