@@ -5,11 +5,14 @@ use Rattle.std.specs.Option.{option_map, option_flatten}
 use Rattle.std.proofs.lemmas.Bool.{cases_eq}
 use Rattle.std.proofs.lemmas.Option.{slice_get_within}
 use Rattle.events.specs.Parts.{StoredEvent}
+use Rattle.events.specs.WellFormed.{WellFormed}
 use Rattle.stores.specs.Questions.{parents_at, parent_at}
 use Rattle.versions.specs.declared.counters.Counters.{Counters}
 use Rattle.versions.specs.Versions.{Head, Parent}
 use Rattle.versions.specs.Searches.{marks, Listed, Noted, Among}
+use Rattle.versions.specs.Difference.{Known}
 use Rattle.versions.proofs.Joins.{spread_more}
+use Rattle.versions.proofs.Reached.{parent_less}
 
 module _ {m : ℕ} {w : List ℕ} {s : Counters} where
   pub noted_none : (f : ℕ → Option ℕ) → Listed w s → Noted (Among f 0) m w s w s
@@ -84,3 +87,7 @@ parents_are es y xs is x = ((λ h. (h.0, sym (at h.0) ∙ h.1)), (λ h. (h.0, at
   where
     at : (k : ℕ) → slice_get xs k ≡ parent_at es y k
     at k = ap (λ o. option_flatten (option_map (λ ps. slice_get ps k) o)) is
+
+-- each of them is an earlier event
+pub parents_known : (es : List StoredEvent) → WellFormed es → (y : ℕ) (xs : List ℕ) → Some xs ≡ parents_at es y → Known y xs
+parents_known es fit y xs is x h = parent_less es fit y x ((parents_are es y xs is x).0 h)
