@@ -117,6 +117,7 @@ pub(crate) fn write_events<'u, 'w, S: EventStore, O: TotalOrder<Name>>(
     let mut unwritten = Unwritten { store, work, queue };
     unwritten.start();
     let written = unwritten.write_all();
+    // taken apart, since a store need not be a type that may be dropped
     let Unwritten {
         store: _,
         work: _,

@@ -3,7 +3,8 @@ ghost use Rattle.std.specs.Prelude.{◌≡◌, Bool, nat_lt};
 ghost use Rattle.std.proofs.Common.{rules};
 ghost use Rattle.queue.specs.Orders.{Total};
 
-// An order in which of any two different values one comes first.
+// An order in which of any two different values one comes first. It is a value of its own, and not the `Ord` of the
+// elements, since callers choose between several orders of the same names.
 pub trait TotalOrder<T> {
     ghost first: { T → T → Bool };
 
