@@ -26,16 +26,16 @@ PATTERNS = [
      r"else \{\s*return (?:None|Err\(|false|0|written|len|\(0)"),
     ("3", "loops over a range", r"\bfor \w+ in (?:\(?\d+|\w+)\.\."),
     ("3", "loops with a test", r"^[ ]*(?:while\b|loop \{)[^\n]*"),
-    ("3", "elements fetched behind a test of the length", r"if \w+ [<>]=? self\.\w+\.len\(\)[^{]*\{"),
+    ("3", "elements fetched behind a test of the length", r"if \w+ [<>]=? (?:self\.)?\w+\.len\(\)[^{]*\{"),
     ("3", "every and any by hand", r"\bfor [^{]*\{(?:(?!\bfor\b)[^}])*?return (?:true|false|Some\(\w+\));"),
     ("4", "impls of equality, order, copying, conversion, printing",
      r"^impl[^{\n]*\b(?:PartialEq|Eq|PartialOrd|Ord|Clone|From<|TryFrom<|FromStr|Display)[^{\n]*"),
     ("4", "functions that compare, convert or print", r"\bfn (?:same_\w+|\w+_told|named_\w+|is_insert|leads_to|precedes|present_bit|shown)\b"),
     ("4", "arms or branches that say true, false, 1 or 0", r"=> (?:true|false),|\{ 1 \} else \{ 0 \}|\{\s*1\s*\} else \{\s*0\s*\}"),
     ("4", "records built again field by field", r"(\w+): (?:self|node|s)\.\1,"),
-    ("6", "lists behind a reference to a Vec", r": &(?:mut )?Vec<"),
+    ("6", "lists behind a reference to a Vec", r": &(?:'\w+ )?(?:mut )?Vec<"),
     ("6", "fixed lists with a count", r"\[u\w+; \d+\],\s*(?:pub(?:\(crate\))? )?count"),
-    ("6", "a length or room beside a list", r"(?:cells|names|nodes): (?:&mut )?(?:\[\w+\]|Vec<\w+>),\s*(?:pub(?:\(crate\))? )?(?:len|room): usize"),
+    ("6", "a length or room beside a list", r"(?:cells|names|nodes): (?:&(?:'\w+ )?(?:mut )?)?(?:\[\w+\]|Vec<\w+>),(?:\s*(?:pub(?:\(crate\))? )?\w+: [^,{}()]+,)*\s*(?:pub(?:\(crate\))? )?(?:len|room): usize"),
     ("6", "links by number in a list", r": Option<u16>,"),
     ("7", "steps picked by a match", r"match \w+ \{\s*\w+::\w+(?:\([^)]*\))? => \w+(?:\.\w+|::\w+)?\([^\n]*\n\s*\w+::\w+(?:\([^)]*\))? => \w+(?:\.\w+|::\w+)?\("),
 ]
@@ -82,7 +82,7 @@ def functions(text):
 def main():
     verbose = "-v" in sys.argv
     commit = next((a for a in sys.argv[1:] if a != "-v"), None)
-    files = dict(sources(commit))
+    files = {name: re.sub(r"//[^\n]*", "", text) for name, text in sources(commit)}
     for point, what, pattern in PATTERNS:
         hits = [(name, text[:m.start()].count("\n") + 1, " ".join(m.group(0).split()))
                 for name, text in files.items() for m in re.finditer(pattern, text, FLAGS)]
@@ -94,7 +94,6 @@ def main():
     shapes = defaultdict(list)
     for name, text in files.items():
         for fn, _, body in functions(text):
-            body = re.sub(r"//[^\n]*", "", body)
             tokens = re.findall(r"\w+|[^\w\s]", body)
             if len(tokens) > 24 and "assert" not in body:
                 shape = " ".join("0" if t[0].isdigit() else "x" if re.match(r"\w", t) else t for t in tokens)
@@ -111,9 +110,9 @@ def main():
         for _, head, _ in functions(text):
             for m in re.finditer(r"(requires|ensures)(?: \w+)? \{(.*?)\}\n", head + "\n", re.S):
                 clauses[crate][m.group(1) + " " + " ".join(m.group(2).split())] += 1
-            params = re.findall(r"(\w+): (&?(?:mut )?[\w\[\]<>]+)", re.split(r"\n    (?:requires|ensures)", head)[0])
+            params = re.findall(r"(\w+): (&?(?:'\w+ )?(?:mut )?[\w\[\]<>]+)", re.split(r"\n    (?:requires|ensures)", head)[0])
             if len(params) >= 3:
-                groups[crate][tuple(sorted(params)[:9])] += 1
+                groups[crate][tuple(sorted((a, re.sub(r"'\w+ ", "", b)) for a, b in params)[:9])] += 1
     found = [(c, n, t) for c, ts in clauses.items() for t, n in ts.items() if n >= 3]
     print(f"5  clauses that stand in three or more contracts of a crate: {len(found)}")
     if verbose:

@@ -12,7 +12,7 @@ fn name(number: u32) -> Name
     Name { author: 7, number }
 }
 
-// The tests of a crate stand alone, so this stands in those of two.
+// The tests of a crate stand alone, so its like stands in those of other crates.
 fn delete(name: Name, parents: &[u16]) -> NumberedEvent {
     Event {
         name,

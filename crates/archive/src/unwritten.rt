@@ -22,6 +22,7 @@ struct Unwritten<'u, 'w, S: EventStore, O: TotalOrder<Name>> {
     ghost fits: { length (S.EventStore.events store.now) ≤ length queue.now.cells.now },
 }
 
+// That a call keeps what was lent is a clause of each: it is a fact of two values, which the invariant of one cannot say.
 impl<'u, 'w, S: EventStore, O: TotalOrder<Name>> Unwritten<'u, 'w, S, O> {
     // The first parent of event e that is not written, if there is one.
     fn awaited(&self, e: usize) -> Option<usize>

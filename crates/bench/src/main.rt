@@ -3,7 +3,7 @@
 
 mod graphs;
 
-use anyhow::anyhow;
+use anyhow::Context;
 use archive::archive_order;
 use events::AuthorFirst;
 use graphs::{MANY, graph, put_branched, put_chained, put_merged};
@@ -40,12 +40,10 @@ fn archived(
     work: &mut [u32],
     what: &str,
 ) -> anyhow::Result<()> {
-    let first = store.name(0).ok_or_else(|| anyhow!("no events"))?;
+    let first = store.name(0).context("no events")?;
     let mut names = vec![in rt.alloc(); first; MANY]?;
     let start = Instant::now(rt)?;
-    let count = archive_order(store, &AuthorFirst, work, &mut names).map_err(|_| anyhow!(
-        "refused"
-    ))?;
+    let count = archive_order(store, &AuthorFirst, work, &mut names)?;
     report(rt, start, what, count)
 }
 
@@ -62,9 +60,7 @@ fn differed(
     let start = Instant::now(rt)?;
     let mut all = 0usize;
     for _ in 0..times {
-        let (first, second) = difference(store, &[heads.0], &[heads.1], work, &mut out).map_err(
-            |_| anyhow!("refused"),
-        )?;
+        let (first, second) = difference(store, &[heads.0], &[heads.1], work, &mut out)?;
         all = all.saturating_add(first).saturating_add(second);
     }
     report(rt, start, what, all)

@@ -1,4 +1,5 @@
-//! When two names, or two deeds, are one.
+//! When two names, or two deeds, are one. Both are `==`; what stands here is the promise that no derive makes, that `==`
+//! tells whether they are one.
 ghost use Rattle.std.specs.Prelude.{◌≡◌, true};
 
 use crate::deed::Deed;

@@ -1,5 +1,5 @@
-//! Making the parts of an event: each is tested here, and nowhere else. They are made by `new`, which says what of a
-//! number; a `try_from` beside it would be a second door to the same test.
+//! Making the parts of an event: each is tested here, and nowhere else. A name is made of two numbers, and all four are
+//! made alike, by `new` and not by `TryFrom`. What is refused here has place 0, as there is no event yet.
 ghost use Rattle.std.specs.Prelude.{◌≡◌, [], length};
 ghost use Rattle.events.specs.Made.{NameMade, CharacterMade, PositionMade, ParentsMade, ParentPushed};
 ghost use Rattle.events.specs.Parts.{numbers_of};

@@ -32,11 +32,11 @@ pub trait SiblingOrder {
 }
 
 // Authors first, then numbers: type 0.
-#[derive(Clone, Copy)]
+#[derive(Clone, Copy, Debug, PartialEq, Eq)]
 pub struct AuthorFirst;
 
 // Numbers first, then authors: type 1.
-#[derive(Clone, Copy)]
+#[derive(Clone, Copy, Debug, PartialEq, Eq)]
 pub struct NumberFirst;
 
 impl SiblingOrder for AuthorFirst {

@@ -1,7 +1,7 @@
 //! How names, deeds, layers and refusals are printed.
 use crate::character::Character;
 use crate::deed::Deed;
-use crate::faults::{BookFault, EventFault, Layer};
+use crate::faults::{BookFault, EventFault, FileFault, Layer};
 use crate::name::Name;
 use std::error::Error;
 use std::fmt;
@@ -68,6 +68,13 @@ impl fmt::Display for BookFault {
     }
 }
 
+// As the refusal of an event that it becomes.
+impl fmt::Display for FileFault {
+    fn fmt<W: fmt::Write>(&self, f: &mut fmt::Formatter<W>) -> fmt::Result {
+        EventFault::from(*self).fmt(f)
+    }
+}
+
 // As the refusal of a book that it becomes.
 impl fmt::Display for EventFault {
     fn fmt<W: fmt::Write>(&self, f: &mut fmt::Formatter<W>) -> fmt::Result {
@@ -78,3 +85,5 @@ impl fmt::Display for EventFault {
 impl Error for BookFault {}
 
 impl Error for EventFault {}
+
+impl Error for FileFault {}

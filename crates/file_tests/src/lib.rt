@@ -17,10 +17,9 @@ pub fn bytes_of(heap: Global, words: &[u32]) -> Result<Vec<u8>, AllocError> {
 
 // What reading some bytes as a file of type 0 answers: how many events, or why it is refused.
 pub fn answer(heap: Global, bytes: Vec<u8>) -> Result<usize, Reason> {
-    match FileView::read(heap, bytes, &AuthorFirst) {
-        Ok(view) => Ok(view.count()),
-        Err(unread) => Err(unread.reason),
-    }
+    FileView::read(heap, bytes, &AuthorFirst)
+        .map(|view| view.count())
+        .map_err(|unread| unread.reason)
 }
 
 #[cfg(test)]
@@ -42,37 +41,36 @@ mod tests {
         })
     }
 
-    // One event of four leading words and four parent words, under a head of count 1.
-    fn one(heap: Global, part: [u32; 8]) -> Result<Told, AllocError> {
-        let mut bytes = bytes_of(heap, &[0x1000_0001])?;
-        let event = bytes_of(heap, &part)?;
-        bytes.extend_from_slice(&event)?;
-        let end = bytes_of(heap, &[0xf000_000a])?;
+    // A file of a head, the words of one event after another, and an end.
+    fn file(heap: Global, head: u32, parts: &[[u32; 8]], end: u32) -> Result<Told, AllocError> {
+        let mut bytes = bytes_of(heap, &[head])?;
+        for part in parts {
+            let event = bytes_of(heap, part)?;
+            bytes.extend_from_slice(&event)?;
+        }
+        let end = bytes_of(heap, &[end])?;
         bytes.extend_from_slice(&end)?;
         Ok(told(heap, bytes))
     }
 
+    // One event of four leading words and four parent words, under a head of count 1.
+    fn one(heap: Global, part: [u32; 8]) -> Result<Told, AllocError> {
+        file(heap, 0x1000_0001, &[part], 0xf000_000a)
+    }
+
     // Two events: 1.0 inserts H at 0, and a second one.
     fn two(heap: Global, part: [u32; 8]) -> Result<Told, AllocError> {
-        let mut bytes = bytes_of(
-            heap,
-            &[
-                0x1000_0002,
-                0x2000_0000,
-                0x4000_0048,
-                0x5000_0001,
-                0x6000_0000,
-                0,
-                0,
-                0,
-                0,
-            ],
-        )?;
-        let event = bytes_of(heap, &part)?;
-        bytes.extend_from_slice(&event)?;
-        let end = bytes_of(heap, &[0xf000_0012])?;
-        bytes.extend_from_slice(&end)?;
-        Ok(told(heap, bytes))
+        let first = [
+            0x2000_0000,
+            0x4000_0048,
+            0x5000_0001,
+            0x6000_0000,
+            0,
+            0,
+            0,
+            0,
+        ];
+        file(heap, 0x1000_0002, &[first, part], 0xf000_0012)
     }
 
     #[test]

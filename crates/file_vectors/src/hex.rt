@@ -7,11 +7,7 @@ use std::alloc::{AllocError, Global};
 fn digit(b: u8) -> u8
     ensures { result < 16 }
 {
-    match b {
-        b'0'..=b'9' => b - b'0',
-        b'a'..=b'f' => b - b'a' + 10,
-        _ => 0,
-    }
+    char::from(b).to_digit(16).unwrap_or(0) as u8
 }
 
 // The bytes of a row of digits, two for each; `-` is no bytes.

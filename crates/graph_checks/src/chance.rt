@@ -1,4 +1,4 @@
-//! Numbers that look random, the same in every run.
+//! Numbers that look random, the same in every run: the graphs that are counted depend on every bit of them.
 ghost use Rattle.std.specs.Prelude.{◌<◌};
 
 #[derive(Drop)]

@@ -28,7 +28,7 @@ fn differs_so(
     work: &mut [u32],
     out: &mut [u32],
 ) -> anyhow::Result<bool> {
-    let count = u32::try_from(store.count()).unwrap_or(0);
+    let count = u32::try_from(store.count())?;
     let first = some_below(heap, chance, count)?;
     let second = some_below(heap, chance, count)?;
     let one = slow::version(heap, store, &first)?;

@@ -40,7 +40,7 @@ impl Draw {
     }
 }
 
-/// One call that may change the index, drawn from a number.
+/// One call that may change the index, drawn from a number: how wide a range is says how often its call comes.
 fn act<I: PositionIndex>(index: &mut I, draw: Draw, places: u32, entry: Entry) -> bool {
     let place = draw.below(places) as usize;
     match draw.0 >> 20 {

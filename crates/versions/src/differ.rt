@@ -78,6 +78,8 @@ pub(crate) fn differing<S: EventStore>(
     (s.first, s.second)
 }
 
+// The lists of a call are no struct: the two versions are asked of, the two lists are lent, and the contract says what
+// each of them ends as.
 // Writes to the front of the output the events that are only in the first version, then those only in the second,
 // each the latest first, and answers how many there are of each. The work list has four cells for each event that
 // the store can hold; what they hold does not matter. The output has a cell for each event that the store holds.

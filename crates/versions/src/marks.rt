@@ -2,7 +2,8 @@
 ghost use Rattle.std.specs.Prelude.{◌≡◌};
 ghost use Rattle.versions.specs.Marks.{join as join_marks, number_of, one_sided, told};
 
-#[derive(Clone, Copy, PartialEq, Eq)]
+// The numbers are what a lent cell of 32 bits holds of it; 0 is no mark.
+#[derive(Clone, Copy, Debug, PartialEq, Eq)]
 pub(crate) enum Mark {
     First = 1,
     Second = 2,

@@ -3,6 +3,8 @@ ghost use Rattle.versions.specs.Searches.{Listed};
 
 use crate::counters::Counters;
 
+// The list has four areas of `room` cells, told apart by where they begin: it is lent in one piece, and the queue's area
+// takes a second list from its end.
 #[derive(Drop)]
 pub(crate) struct Search<'a> {
     pub(crate) work: &'a mut [u32],

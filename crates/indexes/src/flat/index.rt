@@ -62,7 +62,8 @@ impl PositionIndex for FlatIndex {
             && self.cells.insert(place, entry).is_ok()
     }
 
-    // The two changes share no helper: the contract of one that takes a closure is longer than both.
+    // The two changes share no helper: each is one field of one cell, and the contract of a helper that takes a closure, or
+    // a value that says which field, is longer than both.
     #[tactic(auto, using(crate::proofs::Edits::written))]
     fn set_prepared(&mut self, place: usize, state: u32) -> bool {
         let Some(entry) = self.cells.get_mut(place) else {
