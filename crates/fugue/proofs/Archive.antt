@@ -73,8 +73,8 @@ module _ (before : Name → Name → Bool) (o : Ordered before) where
 by_names : (R : NamedEvent → NamedEvent → Type 0) (a b : NewestFirst) → ((d e : NamedEvent) → d ∈ a → e ∈ b → d.name ≡ e.name → R d e)
     → (es fs : List NamedEvent) → AllByRecursion (λ e. e ∈ a) es → AllByRecursion (λ e. e ∈ b) fs → names es ≡ names fs → AllZip R es fs
 by_names R a b h [] [] i j q = tt
-by_names R a b h [] (f ∷ fs) i j q = absurd (let z : ◌≡◌ {A = ℕ} 0 1 = cc in omega arith)
-by_names R a b h (e ∷ es) [] i j q = absurd (let z : ◌≡◌ {A = ℕ} 0 1 = cc in omega arith)
+by_names R a b h [] (f ∷ fs) i j q = absurd (grind arith)
+by_names R a b h (e ∷ es) [] i j q = absurd (grind arith)
 by_names R a b h (e ∷ es) (f ∷ fs) i j q =
     let x : e.name ≡ f.name = cc in
     let y : names es ≡ names fs = cc in

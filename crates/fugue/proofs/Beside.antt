@@ -2,6 +2,7 @@
 use Rattle.std.proofs.Common.{◌≡◌, ℕ, Bool, true, false, cond, ◌||◌, List, [], ◌∷◌, ◌++◌, sym, refl, ap, ◌∙◌, subst, ap₂, inl, inr, append_assoc, append-nil, arith}
 use Rattle.std.specs.List.{flat_map, AllByRecursion}
 use Rattle.std.proofs.lemmas.Bool.{both_ways, cases_Bool}
+use Rattle.std.proofs.lemmas.Grind.{flat_map-append}
 use Rattle.events.specs.declared.name.Name.{Name}
 use Rattle.events.specs.declared.character.Character.{Character}
 use Rattle.fugue.specs.Names.{◌∈◌, same, Ordered}
@@ -15,10 +16,6 @@ use Rattle.fugue.proofs.Grown.{has_node_append, has_node, node_in, node_of_lem, 
 use Rattle.fugue.proofs.Sequences.{children_are, children_unique, one_sequence, sequence_right, sequence_only}
 use Rattle.fugue.proofs.Paths.{members, sequence_apart}
 use Rattle.fugue.proofs.Placed.{Origin}
-
-joined_two : {X Y : Type 0} (f : X → List Y) (xs ys : List X) → flat_map f (xs ++ ys) ≡ flat_map f xs ++ flat_map f ys
-joined_two f [] ys = refl
-joined_two f (x ∷ xs) ys = rw (joined_two f xs ys) (sym (append_assoc (f x) (flat_map f xs) (flat_map f ys)))
 
 -- the nodes of a sequence up to one, and up to a left origin
 abbrev pub up_to_name : Name → List Node → List Node
@@ -111,8 +108,8 @@ module _ (before : Name → Name → Bool) (o : Ordered before) (e : Node) (t : 
   regroup : (n : Node) (l r s hl hr a b : List Node) → with_new e n ≡ hl ++ n ∷ hr → a ≡ flat_map (with_new e) l ++ hl → b ≡ hr ++ flat_map (with_new e) r
       → flat_map (with_new e) ((l ++ n ∷ r) ++ s) ≡ (a ++ n ∷ b) ++ flat_map (with_new e) s
   regroup n l r s hl hr a b h f k =
-      joined_two (with_new e) (l ++ n ∷ r) s
-      ∙ ap (λ z. z ++ flat_map (with_new e) s) (joined_two (with_new e) l (n ∷ r) ∙ rw (h, f, k) (simp append_assoc))
+      flat_map-append (with_new e) (l ++ n ∷ r) s
+      ∙ ap (λ z. z ++ flat_map (with_new e) s) (flat_map-append (with_new e) l (n ∷ r) ∙ rw (h, f, k) (simp append_assoc))
 
   with_new_lem : {ns s : List Node} → InSequence before t ns s → InSequence before (e ∷ t) ns (flat_map (with_new e) s)
   with_new_lem none = none
@@ -148,17 +145,18 @@ module _ (before : Name → Name → Bool) (o : Ordered before) (t : Tree) where
   after_append x [] b = refl
   after_append x (n ∷ a) b = let ih = after_append x a b in grind arith
 
-  module _ (x : Name) (n : Node) (l r s : List Node) (il : has_node l x ≡ true → Starts (after x l)) (own : same n.name x ≡ true → Starts r)
-      (ir : has_node r x ≡ true → Starts (after x r)) (is : has_node s x ≡ true → Starts (after x s)) where
+  -- what holds of some nodes holds of more: so it holds of what follows x, by the place of x
+  module _ (S : List Node → Type 0) (more : (s r : List Node) → S s → S (s ++ r)) (x : Name) (n : Node) (l r s : List Node) (il : has_node l x ≡ true → S (after x l))
+      (own : same n.name x ≡ true → S r) (ir : has_node r x ≡ true → S (after x r)) (is : has_node s x ≡ true → S (after x s)) where
     by_place : (a b c : Bool) → has_node l x ≡ a → same n.name x ≡ b → has_node r x ≡ c → (a || (b || c) || has_node s x) ≡ true
-        → Starts (cond (a || (b || c)) (cond a (after x l ++ n ∷ r) (cond b r (after x r)) ++ s) (after x s))
-    by_place true b c qa qb qc h = starts_longer _ s (starts_longer (after x l) (n ∷ r) (il qa))
-    by_place false true c qa qb qc h = starts_longer r s (own qb)
-    by_place false false true qa qb qc h = starts_longer (after x r) s (ir qc)
+        → S (cond (a || (b || c)) (cond a (after x l ++ n ∷ r) (cond b r (after x r)) ++ s) (after x s))
+    by_place true b c qa qb qc h = more _ s (more (after x l) (n ∷ r) (il qa))
+    by_place false true c qa qb qc h = more r s (own qb)
+    by_place false false true qa qb qc h = more (after x r) s (ir qc)
     by_place false false false qa qb qc h = is h
 
-    starts_after : has_node ((l ++ n ∷ r) ++ s) x ≡ true → Starts (after x ((l ++ n ∷ r) ++ s))
-    starts_after h =
+    pub holds_after : has_node ((l ++ n ∷ r) ++ s) x ≡ true → S (after x ((l ++ n ∷ r) ++ s))
+    holds_after h =
         rw (after_append x (l ++ n ∷ r) s, after_append x l (n ∷ r), has_node_append l (n ∷ r) x)
         (by_place (has_node l x) (same n.name x) (has_node r x) refl refl refl
         (sym (has_node_append (l ++ n ∷ r) s x ∙ ap (λ b. b || has_node s x) (has_node_append l (n ∷ r) x)) ∙ h))
@@ -167,7 +165,7 @@ module _ (before : Name → Name → Bool) (o : Ordered before) (t : Tree) where
   pub after_right : {ns s : List Node} → InSequence before t ns s → (x : Name) → has_node s x ≡ true → (k : Node) → k ∈ t → k.attachment ≡ right_of x → Starts (after x s)
   after_right none x h k i e = absurd (both_ways false refl h)
   after_right (next {n = n} {s = s} {l = l} {r = r} kl vl kr vr vs) x h k i e =
-      starts_after x n l r s (λ q. after_right vl x q k i e) (λ q. starts vr k ((kr.are k).1 (i, e ∙ ap right_of (sym (same_name n.name x q)))))
+      holds_after Starts starts_longer x n l r s (λ q. after_right vl x q k i e) (λ q. starts vr k ((kr.are k).1 (i, e ∙ ap right_of (sym (same_name n.name x q)))))
       (λ q. after_right vr x q k i e) (λ q. after_right vs x q k i e) h
 
 pub up_to_after : (x : Name) (s : List Node) → s ≡ up_to_name x s ++ after x s

@@ -1,11 +1,12 @@
 -- An edit, carried out on the old text, gives the new text.
-use Rattle.std.proofs.Common.{◌≡◌, ℕ, suc, ◌<◌, ◌≤◌, Bool, true, false, not, ◌||◌, List, [], ◌∷◌, ◌++◌, map, length, take, drop, Some, None, filter, Option, sym, refl, ap, ◌∙◌, subst, ap₂, inl, inr, arith, length-append}
+use Rattle.std.proofs.Common.{◌≡◌, suc, ◌<◌, ◌≤◌, Bool, true, false, not, ◌||◌, List, [], ◌∷◌, ◌++◌, map, length, take, drop, Some, None, filter, Option, sym, refl, ap, ◌∙◌, subst, ap₂, inl, inr, arith, length-append}
 use lib.Seq.{take-append_seam, drop-append_seam}
 use Rattle.std.specs.List.{AllByRecursion, slice_get}
-use Rattle.std.proofs.lemmas.List.{map-append}
+use Rattle.std.proofs.lemmas.List.{map-append, length-map}
 use Rattle.std.proofs.lemmas.Bool.{both_ways, cases_Bool, or_cases}
 use Rattle.std.proofs.lemmas.List.Elements.{filter-append}
 use Rattle.std.proofs.ByRecursion.{All-weaker}
+use Rattle.std.proofs.lemmas.Bool.{false_from_ne_true}
 use Rattle.events.specs.declared.name.Name.{Name}
 use Rattle.events.specs.declared.character.Character.{Character}
 use Rattle.events.specs.declared.deed.Deed.{Deed}
@@ -36,8 +37,7 @@ spell_append : (a b : List Node) → spell (a ++ b) ≡ spell a ++ spell b
 spell_append a b = map-append (λ n. n.character) a b
 
 spell_long : (a : List Node) → length (spell a) ≡ length a
-spell_long [] = refl
-spell_long (n ∷ a) = ap suc (spell_long a)
+spell_long a = length-map a (λ n. n.character)
 
 -- the text in front of some nodes, and the rest
 module _ (a b : List Node) where
@@ -209,13 +209,13 @@ unfolding placement
 inserted_character before ps x (deed.Insert c p) n e = go (left_origin (visible before ps) p.at) e
   where
     go : (o : Option LeftOrigin) → inserted_at before ps x c o ≡ inserted n → c ∷ [] ≡ n.character ∷ []
-    go None e = absurd (let z : ◌≡◌ {A = ℕ} 0 1 = cc in omega arith)
+    go None e = absurd (grind arith)
     go (Some o) e = cc
 inserted_character before ps x (deed.Delete p) n e = go (slice_get (visible before ps) p.at) e
   where
     go : (m : Option Node) → deleted_at m ≡ inserted n → [] ≡ n.character ∷ []
-    go None e = absurd (let z : ◌≡◌ {A = ℕ} 0 1 = cc in omega arith)
-    go (Some m) e = absurd (let z : ◌≡◌ {A = ℕ} 0 1 = cc in omega arith)
+    go None e = absurd (grind arith)
+    go (Some m) e = absurd (grind arith)
 
 module _ (before : Name → Name → Bool) where
   pub struck_step : (e : NamedEvent) (log : NewestFirst) (x : Name)
@@ -245,10 +245,7 @@ module _ (before : Name → Name → Bool) where
       new beyond s i = absurd (both_ways false refl i)
 
   pub fresh_struck : (e : NamedEvent) (log : NewestFirst) → has (names log) e.name ≡ false → struck (placements before log) e.name ≡ false
-  fresh_struck e log f = elim (cases_Bool (struck (placements before log) e.name)) [
-    | inl h ↦ absurd (both_ways _ (fresh_node before e log f) (struck_node log e.name h))
-    | inr h ↦ h
-  ]
+  fresh_struck e log f = false_from_ne_true (struck (placements before log) e.name) (λ h. both_ways _ (fresh_node before e log f) (struck_node log e.name h))
 
   module _ (o : Ordered before) (log : NewestFirst) (e : NamedEvent) (u : Distinct (e ∷ log)) where
     abbrev ps : List Placed

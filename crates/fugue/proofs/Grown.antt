@@ -3,6 +3,7 @@ use Rattle.std.proofs.Common.{◌≡◌, ℕ, ◌<◌, Bool, true, false, cond, 
 use Rattle.std.specs.List.{AllByRecursion}
 use Rattle.std.proofs.lemmas.Bool.{both_ways, cond_both, or_right, or_left, or_cases, cases_Bool}
 use Rattle.std.proofs.ByRecursion.{all_kept_by, All-weaker, kept_by_passes}
+use Rattle.std.proofs.lemmas.Bool.{false_from_ne_true}
 use Rattle.events.specs.declared.name.Name.{Name}
 use Rattle.fugue.specs.Names.{◌∈◌, same}
 pub use Rattle.fugue.specs.Tree.{has_node, ClosedPart}
@@ -32,7 +33,7 @@ has_node_append (n ∷ s) t x = let ih = has_node_append s t x in grind arith
 -- a name that is new differs from all that a tree has
 module _ (n : Node) (t : Tree) (f : has_node t n.name ≡ false) where
   pub other_name : (x : Name) → has_node t x ≡ true → same n.name x ≡ false
-  other_name x h = elim (cases_Bool (same n.name x)) [ inl e ↦ absurd (both_ways _ f (rw (same_name n.name x e) h)) | inr e ↦ e ]
+  other_name x h = false_from_ne_true (same n.name x) (λ e. both_ways _ f (rw (same_name n.name x e) h))
 
 pub names_apart : (t : Tree) → Grown t → Apart t
 names_apart [] g = tt
@@ -127,7 +128,7 @@ only_has p (n ∷ older) x h =
     ]
 
 lacks_only : (p : Name → Bool) (t : Tree) (x : Name) → has_node t x ≡ false → has_node (only p t) x ≡ false
-lacks_only p t x h = elim (cases_Bool (has_node (only p t) x)) [ inl e ↦ absurd (both_ways _ h (only_has p t x e).0) | inr e ↦ e ]
+lacks_only p t x h = false_from_ne_true (has_node (only p t) x) (λ e. both_ways _ h (only_has p t x e).0)
 
 attached_only : (p : Name → Bool) (t : Tree) (w : Attachment) → AttachedTo (has_node t) w → AttachedTo p w → AttachedTo (has_node (only p t)) w
 attached_only p t root h g = tt

@@ -1,9 +1,10 @@
 -- Where the newest node comes into the sequence.
-use Rattle.std.proofs.Common.{◌≡◌, Bool, true, false, not, ◌⊎◌, List, [], ◌∷◌, ◌++◌, filter, sym, refl, ap, ◌∙◌, subst, ap₂, inl, inr, append-nil}
+use Rattle.std.proofs.Common.{◌≡◌, Bool, true, false, not, List, [], ◌∷◌, ◌++◌, filter, sym, refl, ap, ◌∙◌, subst, ap₂, inl, inr, append-nil}
 use Rattle.std.specs.List.{AllByRecursion}
-use Rattle.std.proofs.lemmas.Bool.{both_ways, cases_Bool}
+use Rattle.std.proofs.lemmas.Bool.{both_ways}
 use Rattle.std.proofs.lemmas.List.Elements.{filter-append}
 use Rattle.std.proofs.ByRecursion.{All-weaker}
+use Rattle.std.proofs.lemmas.Bool.{false_from_ne_true}
 use Rattle.events.specs.declared.name.Name.{Name}
 use Rattle.fugue.specs.Names.{same, Ordered, ◌∈◌, Rising}
 use Rattle.fugue.specs.Tree.{Node, Tree, sequence, only, Grown}
@@ -84,13 +85,10 @@ module _ (before : Name → Name → Bool) (o : Ordered before) (n : Node) (t : 
   lows = all_members _ front (λ m i. rises_across Before front (n ∷ back) order m n i (inl refl))
 
   highs : AllByRecursion (λ m. low m ≡ false) back
-  highs = All-weaker _ _ (λ m b. not_low m b (cases_Bool (low m))) back (rises_right Before front (n ∷ back) order).0
-    where
-      not_low : (m : Node) → Before n m → (low m ≡ true) ⊎ (low m ≡ false) → low m ≡ false
-      not_low m b (inl q) =
-          let x = path (n ∷ t) n.name in
-          absurd (both_ways _ (path_irreflexive before o x) (path_transitive before o x (path (n ∷ t) m.name) x b q))
-      not_low m b (inr q) = q
+  highs =
+      let x = path (n ∷ t) n.name in
+      All-weaker _ _ (λ m b. false_from_ne_true (low m) (λ q. both_ways _ (path_irreflexive before o x) (path_transitive before o x (path (n ∷ t) m.name) x b q)))
+      back (rises_right Before front (n ∷ back) order).0
 
   -- it comes after exactly the nodes that precede it
   pub leaf : sequence before (n ∷ t) ≡ filter low (sequence before t) ++ n ∷ filter (λ m. not (low m)) (sequence before t)

@@ -1,5 +1,5 @@
 -- Members of lists, and lists in a strict order.
-use Rattle.std.proofs.Common.{◌≡◌, ℕ, zero, suc, ◌<◌, ◌≤◌, Bool, true, false, cond, ◌⊎◌, ◌↔◌, List, [], ◌∷◌, ◌++◌, map, length, get_or, Some, filter, sym, refl, ap, ◌∙◌, ap₂, inl, inr, arith}
+use Rattle.std.proofs.Common.{◌≡◌, ℕ, zero, suc, ◌<◌, ◌≤◌, Bool, true, false, ◌⊎◌, ◌↔◌, List, [], ◌∷◌, ◌++◌, map, length, get_or, Some, filter, sym, refl, ap, ◌∙◌, ap₂, inl, inr, arith}
 use Rattle.std.specs.List.{ContainsAt as Has, flat_map, AllByRecursion, slice_get}
 use Rattle.std.proofs.lemmas.Bool.{cond_both}
 use Rattle.std.proofs.ByRecursion.{All-append, all_kept_by, kept_by_passes, All-weaker}
@@ -74,31 +74,19 @@ module _ {X : Type 0} where
   kept_twice p q [] a = refl
   kept_twice p q (x ∷ xs) a = let ih = kept_twice p q xs a.1 in grind (arith, a.0)
 
-  -- so p keeps no more
-  kept_cases : (x : X) (l m : List X) (a b : Bool) → (a ≡ true → b ≡ true) → length l ≤ length m → length (cond a (x ∷ l) l) ≤ length (cond b (x ∷ m) m)
-  kept_cases x l m true b h i = rw (h refl) (omega arith)
-  kept_cases x l m false true h i = omega arith
-  kept_cases x l m false false h i = i
-
-  kept_strictly : (x : X) (l m : List X) (a b : Bool) → (a ≡ true → b ≡ true) → length l < length m → length (cond a (x ∷ l) l) < length (cond b (x ∷ m) m)
-  kept_strictly x l m true b h i = rw (h refl) (omega arith)
-  kept_strictly x l m false true h i = omega arith
-  kept_strictly x l m false false h i = i
-
   kept_no_more : (p q : X → Bool) → ((x : X) → p x ≡ true → q x ≡ true) → (xs : List X) → length (filter p xs) ≤ length (filter q xs)
   kept_no_more p q h [] = omega arith
-  kept_no_more p q h (x ∷ xs) = kept_cases x (filter p xs) (filter q xs) (p x) (q x) (h x) (kept_no_more p q h xs)
+  kept_no_more p q h (x ∷ xs) = let ih = kept_no_more p q h xs in grind (arith, h x, ih)
 
   -- and fewer, if q transitive an element that p does not
   pub kept_fewer : (p q : X → Bool) → ((x : X) → p x ≡ true → q x ≡ true) → (xs : List X) (y : X) → y ∈ xs → p y ≡ false → q y ≡ true
       → length (filter p xs) < length (filter q xs)
   kept_fewer p q h [] y i f t = elim i [ ]
   kept_fewer p q h (x ∷ xs) y (inl e) f t = let l = kept_no_more p q h xs in rw (rw e at f, rw e at t) (omega (arith, l))
-  kept_fewer p q h (x ∷ xs) y (inr i) f t =
-      kept_strictly x (filter p xs) (filter q xs) (p x) (q x) (h x) (kept_fewer p q h xs y i f t)
+  kept_fewer p q h (x ∷ xs) y (inr i) f t = let ih = kept_fewer p q h xs y i f t in grind (arith, h x, ih)
 
   pub nth_in : (xs : List X) (k : ℕ) (x : X) → slice_get xs k ≡ Some x → x ∈ xs
-  nth_in [] k x e = absurd (let z : ◌≡◌ {A = ℕ} 0 1 = cc in omega arith)
+  nth_in [] k x e = absurd (grind arith)
   nth_in (y ∷ ys) zero x e = inl (cc)
   nth_in (y ∷ ys) (suc k) x e = inr (nth_in ys k x e)
 

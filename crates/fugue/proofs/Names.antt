@@ -1,21 +1,21 @@
 -- Names that are one, lists that have a name, and attachments that are one.
-use Rattle.std.proofs.Common.{◌≡◌, Bool, true, false, ◌||◌, eqb, ◌⊎◌, List, [], ◌∷◌, ◌++◌, sym, refl, ap, inl, inr, arith}
-use Rattle.std.proofs.lemmas.Bool.{eqb-true, eq-eqb, and_parts, and_from, or_cases, or_left, or_right, cases_Bool, both_ways}
+use Rattle.std.proofs.Common.{◌≡◌, Bool, true, false, ◌||◌, ◌⊎◌, List, [], ◌∷◌, ◌++◌, sym, refl, ap, inl, inr, arith}
+use Rattle.std.proofs.lemmas.Bool.{or_cases, or_left, or_right, cases_Bool, both_ways}
+use Rattle.std.proofs.lemmas.Bool.{false_from_ne_true}
+use Rattle.std.proofs.lemmas.Bool.Decides.{nat_tests}
 use Rattle.events.specs.declared.name.Name.{Name}
 use Rattle.events.specs.Same.{name_is}
 use Rattle.fugue.specs.Names.{◌∈◌, same, has, Ordered}
 use Rattle.fugue.specs.Tree.{Attachment, root, left_of, right_of, same_attachment}
 
 pub same_name : (a b : Name) → same a b ≡ true → a ≡ b
-same_name a b h =
-    let e = and_parts (eqb a.author b.author) (eqb a.number b.number) h in
-    name_is (eqb-true a.author b.author e.0) (eqb-true a.number b.number e.1)
+same_name a b h = name_is (grind (arith, nat_tests, h)) (grind (arith, nat_tests, h))
 
 pub same_own : (a : Name) → same a a ≡ true
-same_own a = and_from _ _ (eq-eqb a.author a.author refl) (eq-eqb a.number a.number refl)
+same_own a = grind (arith, nat_tests)
 
 pub same_not : (a b : Name) → (a ≡ b → ⊥) → same a b ≡ false
-same_not a b h = elim (cases_Bool (same a b)) [ inl e ↦ absurd (h (same_name a b e)) | inr e ↦ e ]
+same_not a b h = false_from_ne_true (same a b) (λ e. h (same_name a b e))
 
 pub has_in : (xs : List Name) (x : Name) → has xs x ≡ true → x ∈ xs
 has_in [] x h = absurd (both_ways false refl h)
@@ -38,20 +38,16 @@ has_alike xs ys g h x =
     bools_same (has xs x) (has ys x) (λ e. in_has ys x (g x (has_in xs x e))) (λ e. in_has xs x (h x (has_in ys x e)))
 
 pub attachment_is : (p q : Attachment) → same_attachment p q ≡ true → p ≡ q
-attachment_is root root h = refl
-attachment_is root (left_of b) h = absurd (both_ways false refl h)
-attachment_is root (right_of b) h = absurd (both_ways false refl h)
-attachment_is (left_of a) root h = absurd (both_ways false refl h)
+attachment_is root q h = grind arith
+attachment_is (left_of a) root h = grind arith
 attachment_is (left_of a) (left_of b) h = ap left_of (same_name a b h)
-attachment_is (left_of a) (right_of b) h = absurd (both_ways false refl h)
-attachment_is (right_of a) root h = absurd (both_ways false refl h)
-attachment_is (right_of a) (left_of b) h = absurd (both_ways false refl h)
+attachment_is (left_of a) (right_of b) h = grind arith
+attachment_is (right_of a) root h = grind arith
+attachment_is (right_of a) (left_of b) h = grind arith
 attachment_is (right_of a) (right_of b) h = ap right_of (same_name a b h)
 
 pub attachment_refl : (p : Attachment) → same_attachment p p ≡ true
-attachment_refl root = refl
-attachment_refl (left_of a) = same_own a
-attachment_refl (right_of a) = same_own a
+attachment_refl p = grind (arith, same_own)
 
 -- of two names one comes first, or they are one
 pub order_cases : (before : Name → Name → Bool) → Ordered before → (a b : Name) → (before a b ≡ true) ⊎ ((a ≡ b) ⊎ (before b a ≡ true))

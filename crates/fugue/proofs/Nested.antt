@@ -2,6 +2,7 @@
 use Rattle.std.proofs.Common.{◌≡◌, Bool, true, false, ◌⊎◌, List, [], ◌∷◌, ◌++◌, ap, ◌∙◌, inl, inr}
 use Rattle.std.proofs.lemmas.Bool.{both_ways, cases_Bool}
 use Rattle.std.proofs.lemmas.List.Elements.{filter-append}
+use Rattle.std.proofs.lemmas.Bool.{false_from_ne_true}
 use Rattle.events.specs.declared.name.Name.{Name}
 use Rattle.fugue.specs.Names.{Ordered}
 use Rattle.fugue.specs.Tree.{Attachment, root, Node, Tree, sequence, only, AttachedTo, Grown, Children, InSequence, none, next}
@@ -23,7 +24,7 @@ module _ (before : Name → Name → Bool) (o : Ordered before) (p : Name → Bo
   no_children : (q : Attachment) (ns : List Node) → Children before t q ns → (AttachedTo p q → ⊥) → only p ns ≡ []
   no_children q ns k h =
       kept_nothing _ ns (all_members _ ns (λ n i. let s = (k.are n).0 i in let r = all_member _ t n c s.0 in
-      elim (cases_Bool (p n.name)) [ inl e ↦ absurd (h (rw s.1 at (r e))) | inr e ↦ e ]))
+      false_from_ne_true (p n.name) (λ e. h (rw s.1 at (r e)))))
 
   in_only : {ns s : List Node} → InSequence before t ns s → InSequence before (only p t) (only p ns) (only p s)
   in_only none = none

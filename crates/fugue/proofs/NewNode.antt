@@ -1,5 +1,5 @@
 -- Among the nodes of its parents' version a new node comes right after its left origin, in every tree that has them.
-use Rattle.std.proofs.Common.{◌≡◌, ℕ, zero, suc, Bool, true, false, not, ◌⊎◌, List, [], ◌∷◌, ◌++◌, Some, filter, sym, refl, ap, ◌∙◌, subst, ap₂, inl, inr, arith}
+use Rattle.std.proofs.Common.{◌≡◌, ℕ, zero, suc, Bool, true, false, not, List, [], ◌∷◌, ◌++◌, Some, filter, sym, refl, ap, ◌∙◌, subst, ap₂, inl, inr, arith}
 use Rattle.std.specs.List.{AllByRecursion, slice_get}
 use Rattle.events.specs.declared.name.Name.{Name}
 use Rattle.events.specs.declared.character.Character.{Character}
@@ -12,7 +12,8 @@ use Rattle.fugue.specs.Tree.{Attachment, root, left_of, right_of, Node, Tree, se
 use Rattle.fugue.specs.Paths.{end, steps_to, steps, path, path_before, precedes}
 use Rattle.fugue.specs.Placements.{inserted, LeftOrigin, start, node, left_origin, following, visible, attachment_after, placement, seen, placement_in, tree_at, tree}
 use Rattle.fugue.specs.Theorems.{NewNode}
-use Rattle.std.proofs.lemmas.Bool.{both_ways, cases_Bool}
+use Rattle.std.proofs.lemmas.Bool.{both_ways}
+use Rattle.std.proofs.lemmas.Bool.{false_from_ne_true}
 use Rattle.fugue.proofs.Lists.{all_member, all_members, member_kept, in_either, rises_right, rises_across}
 use Rattle.fugue.proofs.Grown.{has_node, node_in, node_of_lem}
 use Rattle.fugue.proofs.Paths.{stepped, path_irreflexive, path_transitive, by_paths, members}
@@ -79,23 +80,19 @@ module _ (before : Name → Name → Bool) (o : Ordered before) (seen_tree : Tre
         (rw comes_in at (by_paths before o (new ∷ seen_tree) grown_new))
 
     earlier : (m : Node) → m ∈ up_to p s → precedes before t m.name x ≡ not (has_node (following p s) m.name)
-    earlier m i = rises_across Before (up_to p s) (new ∷ following p s) placed m new i (inl refl) ∙ sym (ap not (lacks (cases_Bool (has_node (following p s) m.name))))
-      where
-        lacks : (has_node (following p s) m.name ≡ true) ⊎ (has_node (following p s) m.name ≡ false) → has_node (following p s) m.name ≡ false
-        lacks (inl q) =
-            let k = node_of_lem (following p s) m.name q in
-            let b = rises_across Before (up_to p s) (new ∷ following p s) placed m k.0 i (inr k.1) in
-            absurd (both_ways _ (path_irreflexive before o (path t m.name)) (rw k.2 at b))
-        lacks (inr q) = q
+    earlier m i =
+        rises_across Before (up_to p s) (new ∷ following p s) placed m new i (inl refl)
+        ∙ sym (ap not (false_from_ne_true (has_node (following p s) m.name) (λ q.
+        let k = node_of_lem (following p s) m.name q in
+        let b = rises_across Before (up_to p s) (new ∷ following p s) placed m k.0 i (inr k.1) in
+        both_ways _ (path_irreflexive before o (path t m.name)) (rw k.2 at b))))
 
     later : (m : Node) → m ∈ following p s → precedes before t m.name x ≡ not (has_node (following p s) m.name)
-    later m i = not_back (cases_Bool (precedes before t m.name x)) ∙ sym (ap not (node_in (following p s) m i))
-      where
-        not_back : (precedes before t m.name x ≡ true) ⊎ (precedes before t m.name x ≡ false) → precedes before t m.name x ≡ false
-        not_back (inl q) =
-            let b = all_member _ (following p s) m (rises_right Before (up_to p s) (new ∷ following p s) placed).0 i in
-            absurd (both_ways _ (path_irreflexive before o (path t x)) (path_transitive before o (path t x) (path t m.name) (path t x) b q))
-        not_back (inr q) = q
+    later m i =
+        false_from_ne_true (precedes before t m.name x) (λ q.
+        let b = all_member _ (following p s) m (rises_right Before (up_to p s) (new ∷ following p s) placed).0 i in
+        both_ways _ (path_irreflexive before o (path t x)) (path_transitive before o (path t x) (path t m.name) (path t x) b q))
+        ∙ sym (ap not (node_in (following p s) m i))
 
     pub among : AllByRecursion (λ m. precedes before t m.name x ≡ not (has_node (following p s) m.name)) s
     among = all_members _ s (λ m i. elim (in_either (up_to p s) (following p s) m (rw (up_to_following p s) at i)) [ inl j ↦ earlier m j | inr j ↦ later m j ])
@@ -103,12 +100,12 @@ module _ (before : Name → Name → Bool) (o : Ordered before) (seen_tree : Tre
 -- by the log
 pub origin_in : (t : Tree) (ns : List Node) → AllByRecursion (λ n. has_node t n.name ≡ true) ns → (p : ℕ) (q : LeftOrigin) → left_origin ns p ≡ Some q → Origin (has_node t) q
 origin_in t ns a zero start e = tt
-origin_in t ns a zero (node y) e = absurd (let z : ◌≡◌ {A = ℕ} 0 1 = cc in omega arith)
+origin_in t ns a zero (node y) e = absurd (grind arith)
 origin_in t ns a (suc p) start e = tt
 origin_in t ns a (suc p) (node y) e = go ns a p e
   where
     go : (ns : List Node) → AllByRecursion (λ n. has_node t n.name ≡ true) ns → (p : ℕ) → origin_of (slice_get ns p) ≡ Some (node y) → has_node t y ≡ true
-    go [] a p e = absurd (let z : ◌≡◌ {A = ℕ} 0 1 = cc in omega arith)
+    go [] a p e = absurd (grind arith)
     go (n ∷ ns) a zero e = let z : n.name ≡ y = cc in rw z at a.0
     go (n ∷ ns) a (suc p) e = go ns a.1 p e
 
@@ -132,10 +129,7 @@ module _ (before : Name → Name → Bool) (o : Ordered before) (log : NewestFir
   origin = origin_in parents (visible before (seen before log e.parents)) (visible_in before (seen before log e.parents)) p.at q found
 
   fresh_parents : has_node parents e.name ≡ false
-  fresh_parents = lacks (has_node parents e.name) (λ h. (part_has before log e.parents e.name h).0) (fresh_node before e log u.0)
-    where
-      lacks : (b : Bool) → (b ≡ true → has_node (tree before log) e.name ≡ true) → has_node (tree before log) e.name ≡ false → b ≡ false
-      lacks b k f = grind arith
+  fresh_parents = false_from_ne_true (has_node parents e.name) (λ h. both_ways _ (fresh_node before e log u.0) (part_has before log e.parents e.name h).0)
 
   sub : (n : Node) → n ∈ (node' ∷ parents) → n ∈ tree before (e ∷ log)
   sub n (inl f) = rw tree_new (inl f)

@@ -4,10 +4,13 @@ use mathlib.Core.List.{reverse_aux}
 use Rattle.std.specs.List.{flat_map, AllByRecursion, slice_get}
 use Rattle.std.proofs.lemmas.Bool.{both_ways, cases_Bool, or_left, or_parts}
 use Rattle.std.proofs.ByRecursion.{All-weaker}
+use Rattle.std.specs.Option.{option_map}
+use Rattle.std.proofs.lemmas.List.{length_push}
+use Rattle.std.proofs.lemmas.Option.{slice_get-map}
 use Rattle.events.specs.declared.name.Name.{Name}
 use Rattle.events.specs.Parts.{NamedEvent, StoredEvent, SameEvent}
 use Rattle.fugue.specs.Names.{◌∈◌, Rising, same, has, Ordered}
-use Rattle.fugue.proofs.Lists.{all_member, all_members, kept_member, member_kept, kept_like, rises_kept, has_member, member_has}
+use Rattle.fugue.proofs.Lists.{all_member, all_members, nth_in, kept_member, member_kept, kept_like, rises_kept, has_member, member_has}
 use Rattle.fugue.specs.Logs.{NewestFirst, names, Distinct, name_at, named_in, log_of, numbers_from, numbered, Within, SameEvents}
 use Rattle.fugue.specs.Archive.{Admits, Admissible, WrittenFrom, ArchiveOrder}
 use Rattle.fugue.proofs.Names.{same_name, same_own, same_not, has_in, in_has}
@@ -22,8 +25,7 @@ name_at_lem [] xs x = refl
 name_at_lem (y ∷ pre) xs x = name_at_lem pre xs x
 
 one_more : (pre : List Name) (x : Name) → length (pre ++ x ∷ []) ≡ suc (length pre)
-one_more [] x = refl
-one_more (y ∷ pre) x = ap suc (one_more pre x)
+one_more pre x = let l = length_push pre x in omega arith
 
 names_of : (pre xs ps : List Name) → flat_map (name_at (pre ++ xs)) (numbers_from (length pre) xs ps) ≡ filter (has ps) xs
 names_of pre [] ps = refl
@@ -45,23 +47,16 @@ names_of pre (x ∷ xs) ps = go (has ps x) (names_of (pre ++ x ∷ []) xs ps)
 -- the names of a list at its places
 
 nth_map : (es : List NamedEvent) (i : ℕ) (d : NamedEvent) → slice_get es i ≡ Some d → slice_get (names es) i ≡ Some d.name
-nth_map [] i d q = absurd (let z : ◌≡◌ {A = ℕ} 0 1 = cc in omega arith)
-nth_map (e ∷ es) zero d q = cc
-nth_map (e ∷ es) (suc i) d q = nth_map es i d q
-
-nth_name : (xs : List Name) (i : ℕ) (x : Name) → slice_get xs i ≡ Some x → x ∈ xs
-nth_name [] i x q = absurd (let z : ◌≡◌ {A = ℕ} 0 1 = cc in omega arith)
-nth_name (y ∷ xs) zero x q = inl (cc)
-nth_name (y ∷ xs) (suc i) x q = inr (nth_name xs i x q)
+nth_map es i d q = slice_get-map (λ e. e.name) es i ∙ ap (option_map (λ e. e.name)) q
 
 abbrev Apart : List Name → Type 0
 Apart xs = Rising (λ x y. x ≡ y → ⊥) xs
 
 one_place : (xs : List Name) → Apart xs → (i j : ℕ) (x : Name) → slice_get xs i ≡ Some x → slice_get xs j ≡ Some x → i ≡ j
-one_place [] a i j x p q = absurd (let z : ◌≡◌ {A = ℕ} 0 1 = cc in omega arith)
+one_place [] a i j x p q = absurd (grind arith)
 one_place (y ∷ xs) a zero zero x p q = refl
-one_place (y ∷ xs) a zero (suc j) x p q = absurd (all_member _ xs x a.0 (nth_name xs j x q) (cc))
-one_place (y ∷ xs) a (suc i) zero x p q = absurd (all_member _ xs x a.0 (nth_name xs i x p) (cc))
+one_place (y ∷ xs) a zero (suc j) x p q = absurd (all_member _ xs x a.0 (nth_in xs j x q) (cc))
+one_place (y ∷ xs) a (suc i) zero x p q = absurd (all_member _ xs x a.0 (nth_in xs i x p) (cc))
 one_place (y ∷ xs) a (suc i) (suc j) x p q = ap suc (one_place xs a.1 i j x p q)
 
 -- each number stands for a name of the list that is among ps
@@ -94,7 +89,7 @@ module _ (before : Name → Name → Bool) (log : NewestFirst) where
   -- a parent was written before
   earlier : (es : List NamedEvent) (acc : NewestFirst) → WrittenFrom before (names acc) log es → (i : ℕ) (d : NamedEvent) → slice_get es i ≡ Some d → (p : Name) → p ∈ d.parents
       → (p ∈ names acc) ⊎ ((j : ℕ) × (j < i) × (slice_get (names es) j ≡ Some p))
-  earlier [] acc w i d q p k = absurd (let z : ◌≡◌ {A = ℕ} 0 1 = cc in omega arith)
+  earlier [] acc w i d q p k = absurd (grind arith)
   earlier (e ∷ es) acc w zero d q p k =
       let f : e ≡ d = cc in inl (has_in (names acc) p (all_member _ e.parents p w.0.ready.after (subst (λ z. p ∈ z.parents) (sym f) k)))
   earlier (e ∷ es) acc w (suc i) d q p k = elim (earlier es (e ∷ acc) w.1 i d q p k) [
@@ -106,7 +101,7 @@ module _ (before : Name → Name → Bool) (log : NewestFirst) where
   to_stored es e = record { name = e.name; deed = e.deed; parents = numbers_from 0 (names es) e.parents }
 
   nth_stored : (all es : List NamedEvent) (i : ℕ) (e : StoredEvent) → slice_get (map (to_stored all) es) i ≡ Some e → (d : NamedEvent) × (slice_get es i ≡ Some d) × (to_stored all d ≡ e)
-  nth_stored all [] i e q = absurd (let z : ◌≡◌ {A = ℕ} 0 1 = cc in omega arith)
+  nth_stored all [] i e q = absurd (grind arith)
   nth_stored all (d ∷ es) zero e q = (d, refl, cc)
   nth_stored all (d ∷ es) (suc i) e q = nth_stored all es i e q
 

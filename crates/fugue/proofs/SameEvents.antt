@@ -1,7 +1,8 @@
 -- Logs that hold the same events have the same placements, texts and edits.
 use Rattle.std.proofs.Common.{◌≡◌, Bool, true, false, List, [], ◌∷◌, ◌++◌, sym, refl, ap, ◌∙◌, subst, ap₂, inl, inr}
 use Rattle.std.specs.List.{AllByRecursion}
-use Rattle.std.proofs.lemmas.Bool.{both_ways, cases_Bool, or_right, or_left, or_cases}
+use Rattle.std.proofs.lemmas.Bool.{both_ways, or_right, or_left, or_cases}
+use Rattle.std.proofs.lemmas.Bool.{false_from_ne_true}
 use Rattle.events.specs.declared.name.Name.{Name}
 use Rattle.events.specs.Parts.{NamedEvent, SameEvent}
 use Rattle.fugue.specs.Names.{◌∈◌, same, has, Ordered}
@@ -194,10 +195,7 @@ module _ (before : Name → Name → Bool) where
         same_place = same_placement b ub kb a b e d (part_a e.parents) (part_b d.parents) h
 
         f' : has (names b) d.name ≡ false
-        f' = elim (cases_Bool (has (names b) d.name)) [
-          | inl q ↦ absurd (both_ways _ f (rw h.name (within_held b a s.1 d.name q)))
-          | inr q ↦ q
-        ]
+        f' = false_from_ne_true (has (names b) d.name) (λ q. both_ways _ f (rw h.name (within_held b a s.1 d.name q)))
 
         grown_with : (c : NewestFirst) → Distinct c → (k : NamedEvent) → has (names c) k.name ≡ false → (n : Node) → placement_in before c k ≡ inserted n → Grown (n ∷ nodes (placements before c))
         unfolding tree

@@ -1,8 +1,10 @@
 -- In its parents' text an event does what it says, at its own position.
-use Rattle.std.proofs.Common.{◌≡◌, ℕ, zero, suc, ◌<◌, ◌≤◌, Bool, true, false, not, ◌||◌, ◌↔◌, List, [], ◌∷◌, ◌++◌, length, Some, None, filter, Option, refl, ap, ◌∙◌, subst, ap₂, inl, inr, arith}
+use Rattle.std.proofs.Common.{◌≡◌, ℕ, zero, suc, ◌<◌, ◌≤◌, Bool, true, false, not, ◌||◌, ◌↔◌, List, [], ◌∷◌, ◌++◌, length, Some, None, filter, Option, sym, refl, ap, ◌∙◌, subst, ap₂, inl, inr, arith}
 use lib.ListN.{length-map}
 use Rattle.std.specs.List.{AllByRecursion, slice_get}
 use Rattle.std.proofs.lemmas.Bool.{both_ways, cases_Bool, not-true}
+use Rattle.std.proofs.lemmas.Option.{none-some, slice_get_cases, slice_get_past}
+use Rattle.std.proofs.lemmas.Bool.{false_from_ne_true}
 use Rattle.events.specs.declared.name.Name.{Name}
 use Rattle.events.specs.declared.character.Character.{Character}
 use Rattle.events.specs.declared.deed.Deed.{Deed}
@@ -45,7 +47,7 @@ module _ (shown : Node → Bool) where
       rw (d, l) (ap suc r.0, ap suc r.1)
 
   counted : (s : List Node) → Apart s → (k : ℕ) (m : Node) → slice_get (filter shown s) k ≡ Some m → Counted s k m
-  counted [] a k m q = absurd (let z : ◌≡◌ {A = ℕ} 0 1 = cc in omega arith)
+  counted [] a k m q = absurd (grind arith)
   counted (n ∷ s) a k m q = elim (cases_Bool (shown n)) [
     | inl l ↦ counted_live n s a l k m (rw l at q) (λ j. counted s a.1 j m)
     | inr l ↦
@@ -57,17 +59,10 @@ module _ (shown : Node → Bool) where
 
 -- which places a list has
 nth_none : {X : Type 0} (xs : List X) (k : ℕ) → slice_get xs k ≡ None → length xs ≤ k
-nth_none [] k q = omega arith
-nth_none (x ∷ xs) zero q = absurd (let z : ◌≡◌ {A = ℕ} 0 1 = cc in omega arith)
-nth_none (x ∷ xs) (suc k) q = let ih = nth_none xs k q in omega (arith, ih)
-
-nth_past : {X : Type 0} (xs : List X) (k : ℕ) → length xs ≤ k → slice_get xs k ≡ None
-nth_past [] k l = refl
-nth_past (x ∷ xs) zero l = absurd (omega arith)
-nth_past (x ∷ xs) (suc k) l = nth_past xs k (omega arith)
+nth_none xs k q = elim (slice_get_cases xs k).1 [ inl r ↦ absurd (none-some r.0 (sym q ∙ r.2)) | inr r ↦ r.0 ]
 
 -- the front of a sequence, up to a name that it does not have
-front_of : (a b : List Node) (n : Node) → AllByRecursion (λ m. same m.name n.name ≡ false) a → in_front_of n.name (a ++ n ∷ b) ≡ a
+pub front_of : (a b : List Node) (n : Node) → AllByRecursion (λ m. same m.name n.name ≡ false) a → in_front_of n.name (a ++ n ∷ b) ≡ a
 front_of [] b n h = rw (same_own n.name)
 front_of (m ∷ a) b n h = rw h.0 (ap (λ z. m ∷ z) (front_of a b n h.1))
 
@@ -100,14 +95,14 @@ module _ (before : Name → Name → Bool) (o : Ordered before) (ps : List Place
   -- the left origin of position k has k visible nodes up to it
   origin_counts : (k : ℕ) (q : LeftOrigin) → left_origin (filter shown s) k ≡ Some q → length (filter shown (up_to q s)) ≡ k
   origin_counts zero start e = refl
-  origin_counts zero (node y) e = absurd (let z : ◌≡◌ {A = ℕ} 0 1 = cc in omega arith)
+  origin_counts zero (node y) e = absurd (grind arith)
   origin_counts (suc k) q e = go (slice_get (filter shown s) k) refl e
     where
       by_name : (m : Node) → slice_get (filter shown s) k ≡ Some m → (q : LeftOrigin) → node m.name ≡ q → length (filter shown (up_to q s)) ≡ suc k
       by_name m h q r = subst (λ w. length (filter shown (up_to w s)) ≡ suc k) r (counted shown s s_apart k m h).0
 
       go : (m : Option Node) → slice_get (filter shown s) k ≡ m → origin_of m ≡ Some q → length (filter shown (up_to q s)) ≡ suc k
-      go None h r = absurd (let z : ◌≡◌ {A = ℕ} 0 1 = cc in omega arith)
+      go None h r = absurd (grind arith)
       go (Some m) h r = by_name m h q (cc)
 
   insert_asked : (c : Character) (k : ℕ) (q : Option LeftOrigin) → left_origin (visible before ps) k ≡ q → (inserted_at before ps x c q ≡ beyond → ⊥)
@@ -136,23 +131,23 @@ module _ (before : Name → Name → Bool) (o : Ordered before) (ps : List Place
 
   none_inserted : (c : Character) (q : Option LeftOrigin) → inserted_at before ps x c q ≡ beyond → q ≡ None
   none_inserted c None h = refl
-  none_inserted c (Some q) h = absurd (let z : ◌≡◌ {A = ℕ} 0 1 = cc in omega arith)
+  none_inserted c (Some q) h = absurd (grind arith)
 
   none_deleted : (m : Option Node) → deleted_at m ≡ beyond → m ≡ None
   none_deleted None h = refl
-  none_deleted (Some m) h = absurd (let z : ◌≡◌ {A = ℕ} 0 1 = cc in omega arith)
+  none_deleted (Some m) h = absurd (grind arith)
 
   no_origin : (k : ℕ) → left_origin (visible before ps) k ≡ None → length (visible before ps) < k
-  no_origin zero e = absurd (let z : ◌≡◌ {A = ℕ} 0 1 = cc in omega arith)
+  no_origin zero e = absurd (grind arith)
   no_origin (suc k) e = go (slice_get (visible before ps) k) refl e
     where
       go : (m : Option Node) → slice_get (visible before ps) k ≡ m → origin_of m ≡ None → length (visible before ps) < suc k
       go None h r = let l = nth_none (visible before ps) k h in omega (arith, l)
-      go (Some m) h r = absurd (let z : ◌≡◌ {A = ℕ} 0 1 = cc in omega arith)
+      go (Some m) h r = absurd (grind arith)
 
   origin_past : (k : ℕ) → length (visible before ps) < k → left_origin (visible before ps) k ≡ None
   origin_past zero l = absurd (omega arith)
-  origin_past (suc k) l = ap origin_of (nth_past (visible before ps) k (omega arith))
+  origin_past (suc k) l = ap origin_of (slice_get_past (visible before ps) k (omega arith))
 
   beyond_past : (d : Deed) → (placement before ps x d ≡ beyond) ↔ PastTheText d (length (characters before ps))
   unfolding placement
@@ -162,7 +157,7 @@ module _ (before : Name → Name → Bool) (o : Ordered before) (ps : List Place
   )
   beyond_past (deed.Delete p) = (
     (λ h. let l = nth_none (visible before ps) p.at (none_deleted (slice_get (visible before ps) p.at) h) in omega (arith, l, long)),
-    (λ l. ap deleted_at (nth_past (visible before ps) p.at (omega (arith, l, long)))),
+    (λ l. ap deleted_at (slice_get_past (visible before ps) p.at (omega (arith, l, long)))),
   )
 
 -- the version of the event itself
@@ -195,17 +190,11 @@ module _ (before : Name → Name → Bool) (o : Ordered before) (log : NewestFir
 
   fresh_here : has_node (nodes ps) e.name ≡ false
   unfolding tree_at
-  fresh_here = elim (cases_Bool (has_node (nodes ps) e.name)) [
-    | inl h ↦ absurd (both_ways _ (fresh_node before e log u.0) (part_has before log e.parents e.name h).0)
-    | inr h ↦ h
-  ]
+  fresh_here = false_from_ne_true (has_node (nodes ps) e.name) (λ h. both_ways _ (fresh_node before e log u.0) (part_has before log e.parents e.name h).0)
 
   alive_here : struck ps e.name ≡ false
   unfolding seen
-  alive_here = elim (cases_Bool (struck ps e.name)) [
-    | inl h ↦ absurd (both_ways _ (fresh_struck before e log u.0) (struck_part (version log e.parents) (placements before log) e.name h))
-    | inr h ↦ h
-  ]
+  alive_here = false_from_ne_true (struck ps e.name) (λ h. both_ways _ (fresh_struck before e log u.0) (struck_part (version log e.parents) (placements before log) e.name h))
 
   g : Grown (nodes ps)
   g = grown_seen before log u.1 e.parents

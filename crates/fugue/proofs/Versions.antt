@@ -1,6 +1,8 @@
 -- A version is its heads and all behind them, in every log that holds its events.
 use Rattle.std.proofs.Common.{◌≡◌, Bool, true, false, cond, ◌&&◌, ◌||◌, ◌⊎◌, ◌↔◌, List, [], ◌∷◌, ◌++◌, sym, refl, ap, ◌∙◌, subst, ap₂, inl, inr, arith}
-use Rattle.std.proofs.lemmas.Bool.{both_ways, cases_Bool, or_cases, or_left, or_right}
+use Rattle.std.proofs.lemmas.Bool.{both_ways, or_cases, or_left, or_right}
+use Rattle.std.proofs.lemmas.Bool.{and_parts}
+use Rattle.std.proofs.lemmas.Bool.{false_from_ne_true}
 use Rattle.events.specs.declared.name.Name.{Name}
 use Rattle.events.specs.Parts.{NamedEvent, SameEvent}
 use Rattle.fugue.specs.Names.{◌∈◌, same, has}
@@ -24,7 +26,7 @@ one_event (c ∷ older) u d e (inr i) (inl g) q = absurd (both_ways _ u.0 (rw (s
 one_event (c ∷ older) u d e (inr i) (inr j) q = one_event older u.1 d e i j q
 
 pub other_event : (older : NewestFirst) (e : NamedEvent) → has (names older) e.name ≡ false → (x : Name) → has (names older) x ≡ true → same e.name x ≡ false
-other_event older e f x h = elim (cases_Bool (same e.name x)) [ inl q ↦ absurd (both_ways _ f (rw (same_name e.name x q) h)) | inr q ↦ q ]
+other_event older e f x h = false_from_ne_true (same e.name x) (λ q. both_ways _ f (rw (same_name e.name x q) h))
 
 pub parents_down : (log : NewestFirst) → ParentsHeld log → (e : NamedEvent) → e ∈ log → (p : Name) → p ∈ e.parents → has (names log) p ≡ true
 parents_down [] k e i p j = elim i [ ]
@@ -48,12 +50,9 @@ version_step e older heads x = go (has heads e.name) (version older (reach e hea
 pub version_cases : (e : NamedEvent) (older : NewestFirst) (heads : List Name) (x : Name) → has (version (e ∷ older) heads) x ≡ true
     → ((has heads e.name ≡ true) × (e.name ≡ x)) ⊎ (has (version older (reach e heads)) x ≡ true)
 version_cases e older heads x h = elim (or_cases _ _ (sym (version_step e older heads x) ∙ h)) [
-  | inl q ↦ let r = parts (has heads e.name) (same e.name x) q in inl (r.0, same_name e.name x r.1)
+  | inl q ↦ let r = and_parts (has heads e.name) (same e.name x) q in inl (r.0, same_name e.name x r.1)
   | inr q ↦ inr q
 ]
-  where
-    parts : (a b : Bool) → (a && b) ≡ true → (a ≡ true) × (b ≡ true)
-    parts a b q = grind arith
 
 pub version_older : (e : NamedEvent) (older : NewestFirst) (heads : List Name) (x : Name) → has (version older (reach e heads)) x ≡ true → has (version (e ∷ older) heads) x ≡ true
 version_older e older heads x h = version_step e older heads x ∙ or_right _ _ h
