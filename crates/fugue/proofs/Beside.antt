@@ -12,9 +12,9 @@ use Rattle.fugue.specs.Edits.{in_front_of}
 use Rattle.fugue.proofs.Names.{same_name, same_own, same_not, attachment_is, attachment_refl}
 use Rattle.fugue.proofs.Lists.{all_member, in_right}
 use Rattle.fugue.proofs.Sorted.{Apart}
-use Rattle.fugue.proofs.Grown.{has_node_append, has_node, node_in, node_of_lem, inside}
+use Rattle.fugue.proofs.Grown.{has_node_append, has_node, node_in, inside}
 use Rattle.fugue.proofs.Sequences.{children_are, children_unique, one_sequence, sequence_right, sequence_only}
-use Rattle.fugue.proofs.Paths.{members, sequence_apart}
+use Rattle.fugue.proofs.Paths.{sequence_has, members, sequence_apart}
 use Rattle.fugue.proofs.Placed.{Origin}
 
 -- the nodes of a sequence up to one, and up to a left origin
@@ -213,9 +213,6 @@ module _ (before : Name → Name → Bool) (o : Ordered before) (t : Tree) (g : 
   abbrev pub new_node : Attachment → Node
   new_node q = record { name = x; character = c; attachment = q }
 
-  pub in_sequence_lem : (y : Name) → has_node t y ≡ true → has_node s y ≡ true
-  in_sequence_lem y h = let r = node_of_lem t y h in rw r.2 at (node_in s r.0 ((members before o t g r.0).1 r.1))
-
   at_free : (q : Attachment) → AttachedTo (has_node t) q → Children before t q [] → sequence before (new_node q ∷ t) ≡ here (new_node q) root ++ flat_map (with_new (new_node q)) s
   at_free q r k = sequence_new before o (new_node q) t (f, r, g) k
 
@@ -236,7 +233,7 @@ module _ (before : Name → Name → Bool) (o : Ordered before) (t : Tree) (g : 
 
   pub at_right : (y : Name) → has_node t y ≡ true → Children before t (right_of y) [] → sequence before (new_node (right_of y) ∷ t) ≡ up_to_name y s ++ new_node (right_of y) ∷ after y s
   at_right y h k =
-      let r = cut y s (in_sequence_lem y h) in
+      let r = cut y s (sequence_has before o t g y h) in
       beside_node (right_of y) h k refl (in_front_of y s) r.at (after y s) (r.at ∷ new_node (right_of y) ∷ []) r.is
       (λ m d. rw (same_not y m.name (λ q. d (sym q ∙ sym r.name)))) (rw (r.name, same_own y))
       ∙ sym (ap (λ z. z ++ new_node (right_of y) ∷ after y s) r.front ∙ append_assoc (in_front_of y s) (r.at ∷ []) (new_node (right_of y) ∷ after y s))
@@ -249,7 +246,7 @@ module _ (before : Name → Name → Bool) (o : Ordered before) (t : Tree) (g : 
   -- a left origin that has a right child is followed by a node without a left child
   pub follower : (p : LeftOrigin) → Origin (has_node t) p → (k : Node) → k ∈ t → k.attachment ≡ right_end_of p → Starts before o t (following p s)
   follower start h k i e = starts before o t seq.in_sequence k ((seq.children.are k).1 (i, e))
-  follower (node y) h k i e = after_right before o t seq.in_sequence y (in_sequence_lem y h) k i e
+  follower (node y) h k i e = after_right before o t seq.in_sequence y (sequence_has before o t g y h) k i e
 
   pub at_end : (p : LeftOrigin) → Origin (has_node t) p → Children before t (right_end_of p) [] → sequence before (new_node (right_end_of p) ∷ t) ≡ up_to p s ++ new_node (right_end_of p) ∷ following p s
   at_end start h k = at_root k

@@ -20,8 +20,8 @@ use Rattle.fugue.specs.Edits.{in_front_of, edit_of, edit, character_of, carry_ou
 use Rattle.fugue.proofs.Names.{same_name, same_own, has_append}
 use Rattle.fugue.proofs.Lists.{all_members, all_left, all_right, kept_like}
 use Rattle.fugue.proofs.Sorted.{Apart}
-use Rattle.fugue.proofs.Grown.{has_node_append, has_node, node_in, node_of_lem, attached_like}
-use Rattle.fugue.proofs.Paths.{members, sequence_apart}
+use Rattle.fugue.proofs.Grown.{has_node_append, has_node, attached_like}
+use Rattle.fugue.proofs.Paths.{sequence_has, sequence_apart}
 use Rattle.fugue.proofs.Placed.{deleted_at, inserted_at, Fitting, sound_in, tree_step, part_has, fresh_node, grown_log}
 use Rattle.fugue.proofs.Leaf.{others, new_is, old_is}
 use Rattle.fugue.proofs.Beside.{Cut, cut}
@@ -141,7 +141,7 @@ module _ (before : Name → Name → Bool) (o : Ordered before) (ps : List Place
       D = after y old
 
       cut_here : Cut y old
-      cut_here = let r = node_of_lem (nodes ps) y h in cut y old (rw r.2 at (node_in old r.0 ((members before o (nodes ps) g r.0).1 r.1)))
+      cut_here = cut y old (sequence_has before o (nodes ps) g y h)
 
       target : Node
       target = cut_here.at

@@ -26,6 +26,9 @@ node_of_lem (n ∷ older) x h = elim (or_cases _ _ h) [
   | inr e ↦ let r = node_of_lem older x e in (r.0, inr r.1, r.2)
 ]
 
+pub named_sub : (a b : Tree) → ((n : Node) → n ∈ a → n ∈ b) → (y : Name) → has_node a y ≡ true → has_node b y ≡ true
+named_sub a b f y h = let r = node_of_lem a y h in rw r.2 at (node_in b r.0 (f r.0 r.1))
+
 pub has_node_append : (s t : Tree) (x : Name) → has_node (s ++ t) x ≡ (has_node s x || has_node t x)
 has_node_append [] t x = refl
 has_node_append (n ∷ s) t x = let ih = has_node_append s t x in grind arith

@@ -11,7 +11,7 @@ use Rattle.fugue.specs.Theorems.{PathOrder}
 use Rattle.fugue.proofs.Names.{same_own, order_cases}
 use Rattle.fugue.proofs.Lists.{all_member, all_members, all_both, rises_joined, rises_cases, rises_weaker, in_either, in_left, in_right, members_decide}
 use Rattle.fugue.proofs.Sorted.{InOrder, Apart}
-use Rattle.fugue.proofs.Grown.{has_node, node_of_lem, other_name, inside}
+use Rattle.fugue.proofs.Grown.{has_node, node_of_lem, named_sub, other_name, inside}
 use Rattle.fugue.proofs.Sequences.{sequence_right, all_sequence}
 
 module _ (before : Name → Name → Bool) (o : Ordered before) where
@@ -202,6 +202,13 @@ module _ (before : Name → Name → Bool) (o : Ordered before) (t : Tree) (g : 
     all_member _ _ n (all_sequence before (λ m. m ∈ t) t (all_members _ t (λ m i. i))),
     all_member _ t n (all_reached t g (λ m i. i)),
   )
+
+  -- the sequence has the names of the tree
+  pub sequence_has : (y : Name) → has_node t y ≡ true → has_node (sequence before t) y ≡ true
+  sequence_has = named_sub t (sequence before t) (λ n. (members n).1)
+
+  pub tree_has : (y : Name) → has_node (sequence before t) y ≡ true → has_node t y ≡ true
+  tree_has = named_sub (sequence before t) t (λ n. (members n).0)
 
   abbrev pub RisesByPath : List Node → Type 0
   RisesByPath s = Rising (λ m n. precedes before t m.name n.name ≡ true) s

@@ -2,6 +2,7 @@
 use Rattle.std.proofs.Common.{◌≡◌, Bool, true, false, not, ◌&&◌, List, [], ◌∷◌, sym, ap, ◌∙◌, subst₂, inl, inr}
 use Rattle.std.proofs.lemmas.Bool.{both_ways, cases_Bool, and_parts}
 use Rattle.std.proofs.ByRecursion.{All-weaker}
+use Rattle.std.proofs.lemmas.Bool.{false_from_ne_true}
 use Rattle.events.specs.declared.name.Name.{Name}
 use Rattle.events.specs.declared.character.Character.{Character}
 use Rattle.fugue.proofs.Grown.{inside}
@@ -111,7 +112,7 @@ module _ (before : Name → Name → Bool) (o : Ordered before) (big small : Tre
 
     module _ (x : Name) (c : Character) (fx : has_node T x ≡ false) where
       not_named : (f : Name → Bool) → (f x ≡ true → has_node T x ≡ true) → f x ≡ false
-      not_named f h = elim (cases_Bool (f x)) [ inl e ↦ absurd (both_ways _ fx (h e)) | inr e ↦ e ]
+      not_named f h = false_from_ne_true (f x) (λ e. both_ways _ fx (h e))
 
       more : (s : OneHome before big small later v p) → LaterNodes (has_node big) K (new_node x s.at c ∷ later)
       more s = (not_named (has_node big) (named_base before o big gb K w later x), not_named (has_node later) (named_late before o big gb K w later x), s.seated, l)

@@ -3,11 +3,12 @@ use Rattle.std.proofs.Common.{◌≡◌, Bool, true, false, cond, not, List, [],
 use Rattle.std.specs.List.{AllByRecursion}
 use Rattle.std.proofs.lemmas.Bool.{both_ways, cases_Bool, or_cases, or_left, or_right}
 use Rattle.std.proofs.ByRecursion.{All-weaker}
+use Rattle.std.proofs.lemmas.Bool.{false_from_ne_true}
 use Rattle.events.specs.declared.name.Name.{Name}
 use Rattle.fugue.specs.Names.{same, Ordered, ◌∈◌, Rising}
 use Rattle.fugue.specs.Paths.{path, path_before}
 use Rattle.fugue.specs.Tree.{Attachment, root, left_of, right_of, same_attachment, Node, Tree, sequence, AttachedTo, only, has_node, Grown}
-use Rattle.fugue.proofs.Grown.{has_own, node_of_lem}
+use Rattle.fugue.proofs.Grown.{named_sub, has_own, node_of_lem}
 use Rattle.fugue.proofs.Lists.{all_member, all_members, kept_member, member_kept, rises_kept, rises_cases, members_decide, all_both}
 use Rattle.fugue.proofs.Names.{same_name, same_own, attachment_is, attachment_refl}
 use Rattle.fugue.proofs.Paths.{path_transitive, by_paths, members}
@@ -145,9 +146,6 @@ seated_more kept n m f (left_of z) h = f z h
 seated_more kept n m f (right_of z) (inl h) = inl h
 seated_more kept n m f (right_of z) (inr h) = inr (f z h)
 
-named_sub : (a b : List Node) → ((n : Node) → n ∈ a → n ∈ b) → (y : Name) → has_node a y ≡ true → has_node b y ≡ true
-named_sub a b f y h = let r = node_of_lem a y h in subst (λ z. has_node b z ≡ true) r.2 (all_member _ b r.0 (has_own b) (f r.0 r.1))
-
 module _ (before : Name → Name → Bool) (o : Ordered before) (big small : Tree) (gb : Grown big) (gs : Grown small) (w : (y : Name) → has_node small y ≡ true → has_node big y ≡ true)
     (base : Alike before o big small gb gs) where
   abbrev pub K : Name → Bool
@@ -158,7 +156,7 @@ module _ (before : Name → Name → Bool) (o : Ordered before) (big small : Tre
 
   pub laid_small : (later : List Node) → LaterNodes (has_node big) K later → LaterNodes K K later
   laid_small [] l = tt
-  laid_small (a ∷ later) l = (elim (cases_Bool (K a.name)) [ inl h ↦ absurd (both_ways _ l.0 (w a.name h)) | inr h ↦ h ], l.1, l.2, laid_small later l.3)
+  laid_small (a ∷ later) l = (false_from_ne_true (K a.name) (λ h. both_ways _ l.0 (w a.name h)), l.1, l.2, laid_small later l.3)
 
   abbrev pub T : List Node → Tree
   T later = grown_over before big later

@@ -1,13 +1,12 @@
 -- What top_follows a left origin that has something on its right climbs to it.
-use Rattle.std.proofs.Common.{◌≡◌, Bool, true, false, cond, ◌||◌, List, [], ◌∷◌, ◌++◌, sym, refl, ap, ◌∙◌, subst, inl}
+use Rattle.std.proofs.Common.{◌≡◌, Bool, true, false, List, [], ◌∷◌, ◌++◌, sym, refl, ap, ◌∙◌, subst, inl}
 use Rattle.std.specs.List.{AllByRecursion}
 use Rattle.std.proofs.lemmas.Bool.{both_ways}
 use Rattle.events.specs.declared.name.Name.{Name}
-use Rattle.fugue.specs.Names.{same, Ordered, ◌∈◌}
+use Rattle.fugue.specs.Names.{Ordered, ◌∈◌}
 use Rattle.fugue.specs.Placements.{after}
 use Rattle.fugue.specs.Tree.{Attachment, left_of, right_of, Node, Tree, has_node, InSequence, none, next}
-use Rattle.fugue.proofs.Beside.{after_append}
-use Rattle.fugue.proofs.Grown.{has_node_append}
+use Rattle.fugue.proofs.Beside.{holds_after}
 use Rattle.fugue.proofs.Lists.{all_members}
 use Rattle.fugue.proofs.Names.{same_name}
 use Rattle.fugue.proofs.Sequences.{one_sequence}
@@ -36,24 +35,9 @@ module _ (before : Name → Name → Bool) (o : Ordered before) (t : Tree) where
       let b = begins vl (left_of n.name) (all_members _ (m ∷ ls) (λ j. (kl.are j).0)) m (inl refl) in
       begins_append q (l ++ n ∷ r) s (begins_append q l (n ∷ r) (b.0, b.1, b.2, onward n q _ a.0.0 a.0.1 b.3))
 
-  module _ (S : List Node → Type 0) (app : (s r : List Node) → S s → S (s ++ r)) (x : Name) (n : Node) (l r s : List Node) (il : has_node l x ≡ true → S (after x l))
-      (at : same n.name x ≡ true → S r) (ir : has_node r x ≡ true → S (after x r)) (is : has_node s x ≡ true → S (after x s)) where
-    by_part : (a b c : Bool) → has_node l x ≡ a → same n.name x ≡ b → has_node r x ≡ c → (a || (b || c) || has_node s x) ≡ true
-        → S (cond (a || (b || c)) (cond a (after x l ++ n ∷ r) (cond b r (after x r)) ++ s) (after x s))
-    by_part true b c qa qb qc h = app _ s (app (after x l) (n ∷ r) (il qa))
-    by_part false true c qa qb qc h = app r s (at qb)
-    by_part false false true qa qb qc h = app (after x r) s (ir qc)
-    by_part false false false qa qb qc h = is h
-
-    next_part : has_node ((l ++ n ∷ r) ++ s) x ≡ true → S (after x ((l ++ n ∷ r) ++ s))
-    next_part h =
-        rw (after_append before o t x (l ++ n ∷ r) s, after_append before o t x l (n ∷ r), has_node_append l (n ∷ r) x)
-        (by_part (has_node l x) (same n.name x) (has_node r x) refl refl refl
-        (sym (has_node_append (l ++ n ∷ r) s x ∙ ap (λ b. b || has_node s x) (has_node_append l (n ∷ r) x)) ∙ h))
-
   pub nexts : {ks s : List Node} → InSequence before t ks s → (x : Name) → has_node s x ≡ true → (k : Node) → k ∈ t → k.attachment ≡ right_of x → Begins (right_of x) (after x s)
   nexts none x h k i e = absurd (both_ways false refl h)
   nexts (next {n = n} {rs = rs} {s = s} {l = l} {r = r} kl vl kr vr vs) x h k i e =
-      next_part (Begins (right_of x)) (begins_append (right_of x)) x n l r s (λ q. nexts vl x q k i e)
+      holds_after before o t (Begins (right_of x)) (begins_append (right_of x)) x n l r s (λ q. nexts vl x q k i e)
       (λ q. let f = ap right_of (same_name n.name x q) in begins vr (right_of x) (all_members _ rs (λ j z. let a = (kr.are j).0 z in (a.0, a.1 ∙ f))) k ((kr.are k).1 (i, e ∙ sym f)))
       (λ q. nexts vr x q k i e) (λ q. nexts vs x q k i e) h

@@ -1,5 +1,5 @@
 -- How many characters of the text are in front of a node, counted in the list.
-use Rattle.std.proofs.Common.{◌≡◌, ℕ, suc, Bool, true, false, cond, not, ◌||◌, List, [], ◌∷◌, ◌++◌, length, sym, refl, ap, ◌∙◌, inl, inr, arith}
+use Rattle.std.proofs.Common.{◌≡◌, suc, Bool, true, false, cond, not, ◌||◌, List, [], ◌∷◌, ◌++◌, length, sym, refl, ap, ◌∙◌, inl, inr, arith}
 use Rattle.std.specs.List.{AllByRecursion}
 use Rattle.std.proofs.lemmas.Bool.{cases_Bool}
 use Rattle.events.specs.declared.name.Name.{Name}
@@ -10,10 +10,11 @@ use Rattle.fugue.specs.Logs.{NewestFirst, Distinct}
 use Rattle.fugue.specs.Tree.{Node, Tree, sequence, only, node_names}
 use Rattle.fugue.specs.Placements.{inserted, deleted, Placed, node_of, target_of, nodes, struck, visible, placements, placement_in, tree}
 use Rattle.fugue.specs.Edits.{in_front_of, edit_of, edit}
-use Rattle.fugue.proofs.Names.{same_name, same_own}
+use Rattle.fugue.proofs.Names.{same_name}
 use Rattle.fugue.proofs.Lists.{all_members, kept_like}
 use Rattle.fugue.proofs.Placed.{tree_step}
 use Rattle.fugue.proofs.Edits.{struck_step, fresh_struck}
+use Rattle.fugue.proofs.Typed.{front_of}
 use Rattle.walk_theory.specs.Indexed.{Holds, unstruck}
 use Rattle.walk_theory.proofs.Shown.{shows_the_text}
 
@@ -32,8 +33,8 @@ front_only keep x k (n ∷ s) =
 
 front_long : (x : Name) (a b : List Node) → node_names a ≡ node_names b → length (in_front_of x a) ≡ length (in_front_of x b)
 front_long x [] [] e = refl
-front_long x [] (n ∷ b) e = absurd (let z : ◌≡◌ {A = ℕ} 0 1 = cc in omega arith)
-front_long x (m ∷ a) [] e = absurd (let z : ◌≡◌ {A = ℕ} 0 1 = cc in omega arith)
+front_long x [] (n ∷ b) e = absurd (grind arith)
+front_long x (m ∷ a) [] e = absurd (grind arith)
 front_long x (m ∷ a) (n ∷ b) e =
     let f : m.name ≡ n.name = cc in
     let g : node_names a ≡ node_names b = cc in
@@ -44,10 +45,6 @@ front_long x (m ∷ a) (n ∷ b) e =
 pub counted : (keep : Name → Bool) (x : Name) → keep x ≡ true → (s l : List Node) → node_names (only keep s) ≡ node_names (only keep l)
     → length (only keep (in_front_of x s)) ≡ length (only keep (in_front_of x l))
 counted keep x k s l e = ap length (sym (front_only keep x k s)) ∙ front_long x (only keep s) (only keep l) e ∙ ap length (front_only keep x k l)
-
-front_put : (a b : List Node) (n : Node) → AllByRecursion (λ m. same m.name n.name ≡ false) a → same n.name n.name ≡ true → in_front_of n.name (a ++ n ∷ b) ≡ a
-front_put [] b n u q = rw q
-front_put (m ∷ a) b n u q = rw u.0 (ap (λ l. m ∷ l) (front_put a b n u.1 q))
 
 module _ (before : Name → Name → Bool) (o : Ordered before) (log closed : NewestFirst) (small : Tree) where
   abbrev keep : Name → Bool
@@ -96,7 +93,7 @@ module _ (before : Name → Name → Bool) (o : Ordered before) (log closed : Ne
           let c = counted keep n.name k (sequence before (n ∷ tree before log)) (a ++ m ∷ b) (new_names later (a ++ m ∷ b) h) in
           edit_is ∙ ap (edit_of before (placements before log)) placed
           ∙ ap Insert (ap (λ t. length (only keep (in_front_of n.name (sequence before (n ∷ t))))) (tree_is log) ∙ c
-          ∙ ap (λ l. length (only keep l)) (ap (λ x. in_front_of x (a ++ m ∷ b)) (q ∙ sym r) ∙ front_put a b m f (same_own m.name)))
+          ∙ ap (λ l. length (only keep l)) (ap (λ x. in_front_of x (a ++ m ∷ b)) (q ∙ sym r) ∙ front_of a b m f))
 
     -- a delete counts what is in the text in front of its target
     pub delete_edit : (x : Name) → placement_in before log e ≡ deleted x → (later listed : List Node) → Holds before log closed small later listed

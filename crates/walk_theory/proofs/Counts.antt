@@ -101,18 +101,18 @@ module _ (before : Name → Name → Bool) (o : Ordered before) (t : Tree) (g : 
   ]
     where
       not_left : (p : Attachment) → Origin (λ y. has_node t y && v y) p → p ≡ left_of n.name → ⊥
-      not_left root h e = let z : ◌≡◌ {A = ℕ} 0 1 = cc in omega arith
+      not_left root h e = grind arith
       not_left (left_of y) h e = h
-      not_left (right_of y) h e = let z : ◌≡◌ {A = ℕ} 0 1 = cc in omega arith
+      not_left (right_of y) h e = grind arith
   alone_by (suc k) (n ∷ ns) e h = elim (cases_Bool (same_attachment (climb d s n.attachment) p)) [
     | inl c ↦ rw c (down_none n.name h)
     | inr c ↦ absurd (not_left p q (rw c at e))
   ]
     where
       not_left : (p : Attachment) → Origin (λ y. has_node t y && v y) p → p ≡ left_of n.name → ⊥
-      not_left root h e = let z : ◌≡◌ {A = ℕ} 0 1 = cc in omega arith
+      not_left root h e = grind arith
       not_left (left_of y) h e = h
-      not_left (right_of y) h e = let z : ◌≡◌ {A = ℕ} 0 1 = cc in omega arith
+      not_left (right_of y) h e = grind arith
 
   pub quick : Quickly before d t v p x
   quick = record {

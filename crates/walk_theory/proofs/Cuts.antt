@@ -1,36 +1,21 @@
 -- Lists that are cut where a test turns.
-use Rattle.std.proofs.Common.{◌≡◌, ◌+◌, ◌-◌, Bool, true, false, not, List, [], ◌∷◌, ◌++◌, reverse, length, take, drop, filter, sym, refl, ap, ◌∙◌, subst, ap₂, inl, inr, arith, length-append}
+use Rattle.std.proofs.Common.{◌≡◌, ◌+◌, ◌-◌, Bool, true, false, not, List, [], ◌∷◌, ◌++◌, reverse, length, take, drop, filter, sym, refl, ap, ◌∙◌, subst, ap₂, inl, inr, append-nil, arith, length-append}
 use mathlib.Core.List.{reverse-append}
 use lib.ListN.{length-reverse}
 use Rattle.std.specs.List.{prefix_len, suffix_len, AllByRecursion}
 use Rattle.std.proofs.lemmas.Bool.{both_ways, cases_Bool}
 use Rattle.std.proofs.lemmas.List.Elements.{filter-append}
 use Rattle.std.proofs.ByRecursion.{All-weaker, All-append}
-use Rattle.fugue.specs.Names.{◌∈◌, Rising}
-use Rattle.fugue.proofs.Lists.{all_both, all_member, kept_nothing, kept_whole}
+use Rattle.std.proofs.lemmas.Bool.{false_from_ne_true}
+use Rattle.std.proofs.lemmas.List.{take_at, drop_at}
+use Rattle.fugue.specs.Names.{Rising}
+use Rattle.fugue.proofs.Lists.{all_both, all_left, all_right, kept_nothing, kept_whole}
 
 module _ {X : Type 0} where
-  pub all_left : (P : X → Type 0) (ls bs : List X) → AllByRecursion P (ls ++ bs) → AllByRecursion P ls
-  all_left P [] bs h = tt
-  all_left P (a ∷ ls) bs h = (h.0, all_left P ls bs h.1)
-
-  pub all_right : (P : X → Type 0) (ls bs : List X) → AllByRecursion P (ls ++ bs) → AllByRecursion P bs
-  all_right P [] bs h = h
-  all_right P (a ∷ ls) bs h = all_right P ls bs h.1
-
   module _ (R : X → X → Type 0) where
     pub rising_left : (ls bs : List X) → Rising R (ls ++ bs) → Rising R ls
     rising_left [] bs h = tt
     rising_left (a ∷ ls) bs h = (all_left (R a) ls bs h.0, rising_left ls bs h.1)
-
-    pub rising_right : (ls bs : List X) → Rising R (ls ++ bs) → Rising R bs
-    rising_right [] bs h = h
-    rising_right (a ∷ ls) bs h = rising_right ls bs h.1
-
-    pub rising_across : (ls bs : List X) → Rising R (ls ++ bs) → (a b : X) → a ∈ ls → b ∈ bs → R a b
-    rising_across [] bs h a b i j = elim i [ ]
-    rising_across (x ∷ ls) bs h a b (inl e) j = rw e (all_member (R x) bs b (all_right (R x) ls bs h.0) j)
-    rising_across (x ∷ ls) bs h a b (inr i) j = rising_across ls bs h.1 a b i j
 
   module _ (B : X → Bool) where
     abbrev pub Falls : List X → Type 0
@@ -45,7 +30,7 @@ module _ {X : Type 0} where
       pub highs : AllByRecursion (λ n. B n ≡ false) high
 
     not_after : (m n : X) → (B n ≡ true → B m ≡ true) → B m ≡ false → B n ≡ false
-    not_after m n h e = elim (cases_Bool (B n)) [ inl f ↦ absurd (both_ways _ e (h f)) | inr f ↦ f ]
+    not_after m n h e = false_from_ne_true (B n) (λ f. both_ways _ e (h f))
 
     pub all_high : (n : X) (l : List X) → Falls (n ∷ l) → B n ≡ false → AllByRecursion (λ m. B m ≡ false) (n ∷ l)
     all_high n l h e = (e, All-weaker _ _ (λ m k. not_after n m k e) l h.0)
@@ -74,24 +59,12 @@ module _ {X : Type 0} where
     leading_stop (a ∷ l) bs h = let ih = leading_stop l bs h in rw ih
 
     kept_parts : (ls bs : List X) → AllByRecursion (λ n. B n ≡ true) ls → AllByRecursion (λ n. B n ≡ false) bs → filter B (ls ++ bs) ≡ ls
-    kept_parts ls bs h k = filter-append B ls bs ∙ ap₂ ◌++◌ (kept_whole B ls h) (kept_nothing B bs k) ∙ append_nil ls
-      where
-        append_nil : (ls : List X) → ls ++ [] ≡ ls
-        append_nil [] = refl
-        append_nil (a ∷ ls) = ap (λ z. a ∷ z) (append_nil ls)
+    kept_parts ls bs h k = filter-append B ls bs ∙ ap₂ ◌++◌ (kept_whole B ls h) (kept_nothing B bs k) ∙ append-nil ls
 
     kept_rest : (ls bs : List X) → AllByRecursion (λ n. B n ≡ true) ls → AllByRecursion (λ n. B n ≡ false) bs → filter (λ n. not (B n)) (ls ++ bs) ≡ bs
     kept_rest ls bs h k =
         filter-append (λ n. not (B n)) ls bs
         ∙ ap₂ ◌++◌ (kept_nothing (λ n. not (B n)) ls (All-weaker _ _ (λ n e. rw e) ls h)) (kept_whole (λ n. not (B n)) bs (All-weaker _ _ (λ n e. rw e) bs k))
-
-    take_front : (ls bs : List X) → take (length ls) (ls ++ bs) ≡ ls
-    take_front [] bs = refl
-    take_front (a ∷ ls) bs = ap (λ z. a ∷ z) (take_front ls bs)
-
-    drop_front : (ls bs : List X) → drop (length ls) (ls ++ bs) ≡ bs
-    drop_front [] bs = refl
-    drop_front (a ∷ ls) bs = drop_front ls bs
 
     -- both parts, by the count
     pub kept_take : (l : List X) → Falls l → (filter B l ≡ take (prefix_len B l) l) × (filter (λ n. not (B n)) l ≡ drop (prefix_len B l) l)
@@ -99,8 +72,8 @@ module _ {X : Type 0} where
         let r = parted l h in
         let k : prefix_len B (r.low ++ r.high) ≡ length r.low = leading_stop r.low r.high r.highs ∙ full r.low r.lows in
         rw (r.is, k) (
-          kept_parts r.low r.high r.lows r.highs ∙ sym (take_front r.low r.high),
-          kept_rest r.low r.high r.lows r.highs ∙ sym (drop_front r.low r.high),
+          kept_parts r.low r.high r.lows r.highs ∙ sym (take_at r.low r.high (length r.low) refl),
+          kept_rest r.low r.high r.lows r.highs ∙ sym (drop_at r.low r.high (length r.low) refl),
         )
       where
         full : (ls : List X) → AllByRecursion (λ n. B n ≡ true) ls → prefix_len B ls ≡ length ls
@@ -117,10 +90,6 @@ module _ {X : Type 0} where
   pub falls_like : (B K : X → Bool) (l : List X) → AllByRecursion (λ n. B n ≡ K n) l → Falls B l → Falls K l
   falls_like B K [] h f = tt
   falls_like B K (a ∷ l) h f = (falls_one B K a l h.0 h.1 f.0, falls_like B K l h.1 f.1)
-
-  pub kept_alike : (p q : X → Bool) (l : List X) → AllByRecursion (λ n. p n ≡ q n) l → filter p l ≡ filter q l
-  kept_alike p q [] h = refl
-  kept_alike p q (n ∷ l) h = let ih = kept_alike p q l h.1 in rw (h.0, ih)
 
   pub all_reverse : (P : X → Type 0) (l : List X) → AllByRecursion P l → AllByRecursion P (reverse l)
   all_reverse P [] h = tt

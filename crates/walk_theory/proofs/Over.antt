@@ -3,6 +3,8 @@ use Rattle.std.proofs.Common.{◌≡◌, ℕ, Bool, true, false, not, ◌⊎◌,
 use Rattle.std.specs.List.{AllByRecursion}
 use Rattle.std.proofs.lemmas.Bool.{both_ways, cases_Bool, or_right, or_cases}
 use Rattle.std.proofs.ByRecursion.{All-weaker}
+use Rattle.std.proofs.lemmas.Bool.{false_from_ne_true}
+use Rattle.std.proofs.lemmas.Option.{none-some}
 use Rattle.events.specs.declared.name.Name.{Name}
 use Rattle.fugue.proofs.Grown.{inside}
 use Rattle.fugue.specs.Names.{same, Ordered, ◌∈◌, Rising}
@@ -11,17 +13,16 @@ use Rattle.fugue.specs.Placements.{after, attached_by}
 use Rattle.fugue.specs.Tree.{Attachment, root, left_of, right_of, same_attachment, Node, Tree, children, sequence, AttachedTo, ClosedPart, has_node, Grown, Children}
 use Rattle.fugue.proofs.Beside.{Starts}
 use Rattle.fugue.proofs.Grown.{has_own, attached_like, node_of_lem}
-use Rattle.fugue.proofs.Lists.{all_member, in_either, in_right}
+use Rattle.fugue.proofs.Lists.{all_member, in_either, in_right, rises_right, rises_across}
 use Rattle.fugue.proofs.Names.{same_name, same_own, attachment_refl}
-use Rattle.fugue.proofs.Paths.{steps_older, steps_own, path_irreflexive, path_transitive, path_total, members, one_path}
+use Rattle.fugue.proofs.Paths.{sequence_has, steps_older, steps_own, path_irreflexive, path_transitive, path_total, members, one_path}
 use Rattle.fugue.proofs.Sequences.{children_are}
 use Rattle.walk_theory.specs.Origins.{Origin, behind, up_to, front}
 use Rattle.walk_theory.specs.Tops.{by_owner, top_at, beside_owner, comes_before}
 use Rattle.walk_theory.specs.Bases.{home_in, attached_over, node_over, grown_over, OnLater, LaterNodes}
 use Rattle.walk_theory.proofs.Gaps.{followed}
-use Rattle.walk_theory.proofs.Tops.{top_older, top_own, none_some, sides}
-use Rattle.walk_theory.proofs.Cuts.{rising_right, rising_across}
-use Rattle.walk_theory.proofs.Search.{cut_at, front_is, as_rooted, rises, in_t, named_s, no_top, beside_past, origin_like}
+use Rattle.walk_theory.proofs.Tops.{top_older, top_own, sides}
+use Rattle.walk_theory.proofs.Search.{cut_at, front_is, as_rooted, rises, in_t, no_top, beside_past, origin_like}
 
 -- an order of node_names by their paths in a tree
 module _ (before : Name → Name → Bool) (o : Ordered before) (t : Tree) (g : Grown t) where
@@ -32,10 +33,7 @@ module _ (before : Name → Name → Bool) (o : Ordered before) (t : Tree) (g : 
   never y = path_irreflexive before o (path t y)
 
   pub not_both : (y z : Name) → less y z ≡ true → less z y ≡ false
-  not_both y z h = elim (cases_Bool (less z y)) [
-    | inl k ↦ absurd (both_ways _ (never y) (path_transitive before o (path t y) (path t z) (path t y) h k))
-    | inr k ↦ k
-  ]
+  not_both y z h = false_from_ne_true (less z y) (λ k. both_ways _ (never y) (path_transitive before o (path t y) (path t z) (path t y) h k))
 
   pub either : (y z : Name) → has_node t y ≡ true → has_node t z ≡ true → (y ≡ z → ⊥) → less y z ≡ not (less z y)
   either y z h k d = elim (path_total before o (path t y) (path t z)) [
@@ -94,10 +92,10 @@ module _ (before : Name → Name → Bool) (o : Ordered before) (b : Tree) (gb :
   -- what stands up to a node
   upto_not : (k : Name) → has_node b k ≡ true → (c : Node) → c ∈ up_to k s → L k c.name ≡ false
   upto_not k h c i =
-      let r = cut_at k s (named_s before o b gb k h) in
+      let r = cut_at k s (sequence_has before o b gb k h) in
       let rs : Rising (λ m n. L m.name n.name ≡ true) (r.0 ++ r.1 ∷ after k s) = rw r.2 at (rises before o b gb) in
       elim (in_either r.0 (r.1 ∷ []) c (rw r.4 at i)) [
-        | inl j ↦ subst (λ z. L z c.name ≡ false) r.3 (not_both before o b gb c.name r.1.name (rising_across _ r.0 (r.1 ∷ after k s) rs c r.1 j (inl refl)))
+        | inl j ↦ subst (λ z. L z c.name ≡ false) r.3 (not_both before o b gb c.name r.1.name (rises_across _ r.0 (r.1 ∷ after k s) rs c r.1 j (inl refl)))
         | inr j ↦ elim j [ inl e ↦ rw (e, r.3) (never before o b gb k) | inr e ↦ elim e [ ] ]
       ]
 
@@ -121,8 +119,8 @@ module _ (before : Name → Name → Bool) (o : Ordered before) (b : Tree) (gb :
           let past-q : AllByRecursion (λ j. beside_owner before b q j.name ≡ false) (n ∷ ns) = rw w at (beside_past before o b gb q h) in
           subst (λ z. L z n.name ≡ beside_owner before b q z) m.2
           (elim (in_either (front q s) (n ∷ ns) m.0 i) [
-            | inl j ↦ rising_across _ (front q s) (n ∷ ns) rs m.0 n j (inl refl) ∙ sym (aside_front q h m.0 j)
-            | inr j ↦ behind_n n ns m.0 j (rising_right _ (front q s) (n ∷ ns) rs).0 ∙ sym (all_member _ (n ∷ ns) m.0 past-q j)
+            | inl j ↦ rises_across _ (front q s) (n ∷ ns) rs m.0 n j (inl refl) ∙ sym (aside_front q h m.0 j)
+            | inr j ↦ behind_n n ns m.0 j (rises_right _ (front q s) (n ∷ ns) rs).0 ∙ sym (all_member _ (n ∷ ns) m.0 past-q j)
           ])
         where
           behind_n : (n : Node) (ns : List Node) (d : Node) → d ∈ (n ∷ ns) → AllByRecursion (λ j. L n.name j.name ≡ true) ns → L d.name n.name ≡ false
@@ -397,7 +395,7 @@ module _ (before : Name → Name → Bool) (o : Ordered before) (b : Tree) (gb :
     beside later l r (out k e) y n s = ap (λ p. beside_owner before (G later) p y) e
     beside later l r (gap k q e) y n s = ap (λ p. beside_owner before (G later) p y) e ∙ elim (named_cases later y n) [
       | inl h ↦ let i = in_gap later l y h in
-          other_gap later l r k y h i (λ f. none_some i.head (sym (ap (λ p. top_at (G later) p y) (sym e) ∙ s) ∙ ap (λ p. top_at (G later) (home_in before b p) y) f ∙ i.headed))
+          other_gap later l r k y h i (λ f. none-some i.head (sym (ap (λ p. top_at (G later) p y) (sym e) ∙ s) ∙ ap (λ p. top_at (G later) (home_in before b p) y) f ∙ i.headed))
       | inr h ↦ beside_base later l (home_in before b r) (home_attached r q) y h ∙ home_beside r q y h ∙ sym (beside_base later l r (as_rooted (has_node b) r q) y h)
     ]
 

@@ -13,10 +13,10 @@ use Rattle.fugue.specs.Tree.{Attachment, root, left_of, right_of, same_attachmen
 use Rattle.fugue.proofs.Beside.{Starts}
 use Rattle.fugue.proofs.Grown.{has_own, age, aged, OnOlder, age_below, grown_only, has_only, node_of_lem}
 use Rattle.fugue.proofs.Leaf.{leaf}
-use Rattle.fugue.proofs.Lists.{all_member, all_members, kept_member, member_kept, in_right, rises_weaker, all_both}
+use Rattle.fugue.proofs.Lists.{all_member, all_members, all_left, all_right, kept_like, kept_member, member_kept, in_right, rises_right, rises_across, rises_weaker, all_both}
 use Rattle.fugue.proofs.Names.{same_name, same_own, attachment_is, attachment_refl, same_not}
 use Rattle.fugue.proofs.Nested.{sequence_part}
-use Rattle.fugue.proofs.Paths.{steps_older, steps_own, path_irreflexive, path_transitive, by_paths, members}
+use Rattle.fugue.proofs.Paths.{sequence_has, steps_older, steps_own, path_irreflexive, path_transitive, by_paths, members}
 use Rattle.fugue.proofs.Sequences.{children_are, sequence_right}
 use Rattle.walk_theory.specs.Origins.{Origin, behind, up_to, front, new_node}
 use Rattle.walk_theory.specs.Tops.{by_owner, top_at, beside_owner, comes_before}
@@ -25,7 +25,7 @@ use Rattle.walk_theory.proofs.Gaps.{followed}
 use Rattle.walk_theory.proofs.Along.{Hangs, along}
 use Rattle.walk_theory.proofs.Forks.{alike}
 use Rattle.walk_theory.proofs.Tops.{tops, found, sides}
-use Rattle.walk_theory.proofs.Cuts.{all_left, all_right, rising_left, rising_right, rising_across, Falls, all_high, all_low, leading_front, leading_stop, leading_like, kept_alike, kept_take, from_end, falls_like}
+use Rattle.walk_theory.proofs.Cuts.{rising_left, Falls, all_high, all_low, leading_front, leading_stop, leading_like, kept_take, from_end, falls_like}
 use Rattle.walk_theory.proofs.Climbs.{Climbs, here, up as on, Begins, begins, nexts}
 
 -- the nodes from the first that passes on
@@ -40,19 +40,15 @@ until_from p (n ∷ ns) = let ih = until_from p ns in elim (cases_Bool (p n.name
 
 from_passes : (p : Name → Bool) (l : List Node) (n : Node) (ns : List Node) → from p l ≡ n ∷ ns → p n.name ≡ true
 unfolding from
-from_passes p [] n ns h = absurd (let z : ◌≡◌ {A = ℕ} 0 1 = cc in omega arith)
+from_passes p [] n ns h = absurd (grind arith)
 from_passes p (m ∷ l) n ns h = elim (cases_Bool (p m.name)) [
   | inl e ↦ let f : m ≡ n = cc (rw e at h) in rw f at e
   | inr e ↦ from_passes p l n ns (rw e at h)
 ]
 
-pub until_none : (p : Name → Bool) (l : List Node) → AllByRecursion (λ n. p n.name ≡ false) (until p l)
-until_none p [] = tt
-until_none p (n ∷ ns) = let ih = until_none p ns in elim (cases_Bool (p n.name)) [ inl e ↦ rw e tt | inr e ↦ rw e (e, ih) ]
-
 from_first : (p : Name → Bool) (l : List Node) (n : Node) (ns : List Node) → only p l ≡ n ∷ ns → (r : List Node) × (from p l ≡ n ∷ r) × (p n.name ≡ true)
 unfolding from
-from_first p [] n ns h = absurd (let z : ◌≡◌ {A = ℕ} 0 1 = cc in omega arith)
+from_first p [] n ns h = absurd (grind arith)
 from_first p (m ∷ l) n ns h = elim (cases_Bool (p m.name)) [
   | inl e ↦ let f : m ≡ n = cc (rw e at h) in (l, rw (e, f), rw f at e)
   | inr e ↦ rw e (from_first p l n ns (rw e at h))
@@ -136,17 +132,14 @@ module _ (before : Name → Name → Bool) (o : Ordered before) (t : Tree) (g : 
   pub all_named : AllByRecursion (λ n. has_node t n.name ≡ true) s
   all_named = all_members _ s (λ n i. all_member _ t n (has_own t) (in_t n i))
 
-  pub named_s : (y : Name) → has_node t y ≡ true → has_node s y ≡ true
-  named_s y h = let r = node_of_lem t y h in rw r.2 at (all_member _ s r.0 (has_own s) ((members before o t g r.0).1 r.1))
-
   seats : (n : Node) → n ∈ t → attachment_in s n.name ≡ n.attachment
   seats n i = seat_is s apart n ((members before o t g n).1 i)
 
   -- a node of the sequence is before all behind it
   pub passed : (y : Name) → has_node t y ≡ true → AllByRecursion (λ m. path_before before (path t y) (path t m.name) ≡ true) (after y s)
   passed y h =
-      let r = cut_at y s (named_s y h) in
-      subst (λ z. AllByRecursion (λ m. path_before before (path t z) (path t m.name) ≡ true) (after y s)) r.3 (rising_right Before r.0 (r.1 ∷ after y s) (rw r.2 at rises)).0
+      let r = cut_at y s (sequence_has before o t g y h) in
+      subst (λ z. AllByRecursion (λ m. path_before before (path t z) (path t m.name) ≡ true) (after y s)) r.3 (rises_right Before r.0 (r.1 ∷ after y s) (rw r.2 at rises)).0
 
   pub below_right : (x y : Name) → path_before before (path t y) (steps_to (steps t) (right_of y) x ++ end ∷ []) ≡ true
   unfolding path
@@ -168,7 +161,7 @@ module _ (before : Name → Name → Bool) (o : Ordered before) (t : Tree) (g : 
     Kept h y = v y ≡ true → (x : Name) → top_at t h y ≡ Some x → v x ≡ true
 
     kept_at : (h p : Attachment) (x : Name) → AttachedTo v p → Hangs (Kept h) p → by_owner (top_at t h) p ≡ Some x → v x ≡ true
-    kept_at h root x r k e = absurd (let z : ◌≡◌ {A = ℕ} 0 1 = cc in omega arith)
+    kept_at h root x r k e = absurd (grind arith)
     kept_at h (left_of y) x r k e = k r x e
     kept_at h (right_of y) x r k e = k r x e
 
@@ -300,20 +293,20 @@ module _ (before : Name → Name → Bool) (o : Ordered before) (t : Tree) (g : 
             = All-weaker _ _ (λ n k. ap₂ (path_before before) (ap (λ z. z ++ end ∷ []) (steps_older e t fx n.name k)) own) s all_named in
             let k = kept_take B s falls in
             leaf before o e t (fx, rh, g)
-            ∙ ap₂ (λ a b. a ++ e ∷ b) (kept_alike _ B s olds ∙ k.0) (kept_alike _ (λ n. not (B n)) s (All-weaker _ _ (λ n f. ap not f) s olds) ∙ k.1)
+            ∙ ap₂ (λ a b. a ++ e ∷ b) (kept_like _ B s olds ∙ k.0) (kept_like _ (λ n. not (B n)) s (All-weaker _ _ (λ n f. ap not f) s olds) ∙ k.1)
 
         home_by_count : AllByRecursion (λ n. B n ≡ true) (front p s) → AllByRecursion (λ n. B n ≡ false) rest → prefix_len B s ≡ length (front p s) + prefix_len B mid
         home_by_count a b =
             ap (prefix_len B) (sym whole) ∙ leading_front B (front p s) (mid ++ rest) a ∙ ap (λ z. length (front p s) + z) (leading_stop B mid rest b)
 
         falls_behind : Falls B (behind p s)
-        falls_behind = rising_right _ (front p s) (behind p s) (rw (← (front_is p s (has_node t) qt)) at falls)
+        falls_behind = rises_right _ (front p s) (behind p s) (rw (← (front_is p s (has_node t) qt)) at falls)
 
         falls_mid : Falls B mid
         falls_mid = rising_left _ mid rest (rw (← (until_from v (behind p s))) at falls_behind)
 
         falls_rest : Falls B rest
-        falls_rest = rising_right _ mid rest (rw (← (until_from v (behind p s))) at falls_behind)
+        falls_rest = rises_right _ mid rest (rw (← (until_from v (behind p s))) at falls_behind)
 
         high_rest : (r : List Node) → rest ≡ r → ((n : Node) (ns : List Node) → rest ≡ n ∷ ns → B n ≡ false) → AllByRecursion (λ n. B n ≡ false) r
         high_rest [] e f = tt
@@ -321,7 +314,7 @@ module _ (before : Name → Name → Bool) (o : Ordered before) (t : Tree) (g : 
 
         low_front : (y : Name) → has_node t y ≡ true → path_before before (path t y) goal ≡ true → AllByRecursion (λ n. B n ≡ true) (up_to y s)
         low_front y n b =
-            let r = cut_at y s (named_s y n) in
+            let r = cut_at y s (sequence_has before o t g y n) in
             rw r.4 (all_low B r.0 r.1 (after y s) (rw r.2 at falls) (rw r.3 b))
 
         low_at : (q : Attachment) → Origin (has_node t) q → ((y : Name) → q ≡ right_of y → has_node t y ≡ true → path_before before (path t y) goal ≡ true) → AllByRecursion (λ n. B n ≡ true) (front q s)
@@ -379,8 +372,8 @@ module _ (before : Name → Name → Bool) (o : Ordered before) (t : Tree) (g : 
 
         mids : AllByRecursion (λ m. path_before before (path t m.name) (path t n.name) ≡ true) mid
         mids =
-            let a : Rising Before (mid ++ n ∷ r) = rw er at (rw (← (until_from v (behind p s))) at (rising_right Before (front p s) (behind p s) (rw (← (front_is p s (has_node t) qt)) at rises))) in
-            all_members _ mid (λ m i. rising_across Before mid (n ∷ r) a m n i (inl refl))
+            let a : Rising Before (mid ++ n ∷ r) = rw er at (rw (← (until_from v (behind p s))) at (rises_right Before (front p s) (behind p s) (rw (← (front_is p s (has_node t) qt)) at rises))) in
+            all_members _ mid (λ m i. rises_across Before mid (n ∷ r) a m n i (inl refl))
 
         left_like : AllByRecursion (λ m. not (B (left_of n.name) root_n bare m) ≡ top_follows before x (top_outside d s v (left_of n.name) m.name)) mid
         left_like =
@@ -420,15 +413,12 @@ module _ (before : Name → Name → Bool) (o : Ordered before) (t : Tree) (g : 
       origin_tv : Origin (has_node tv) p
       origin_tv = origin_like _ _ (λ y h. let a = and_parts (has_node t y) (v y) h in has_only v t y a.0 a.1) p q
 
-      pub named_sv : (y : Name) → has_node tv y ≡ true → has_node (sequence before tv) y ≡ true
-      named_sv y h = let r = node_of_lem tv y h in rw r.2 at (all_member _ (sequence before tv) r.0 (has_own (sequence before tv)) ((members before o tv gv r.0).1 r.1))
-
       pub begun_at : (q : Attachment) → Origin (has_node tv) q → (k : Node) → k ∈ tv → k.attachment ≡ q → Begins before o tv q (behind q (sequence before tv))
       begun_at root h k i e =
           let z = sequence_right before o tv gv in
           begins before o tv z.in_sequence root (all_members _ z.tops (λ j w. (z.children.are j).0 w)) k ((z.children.are k).1 (i, e))
       begun_at (left_of y) h k i e = elim h [ ]
-      begun_at (right_of y) h k i e = nexts before o tv (sequence_right before o tv gv).in_sequence y (named_sv y h) k i e
+      begun_at (right_of y) h k i e = nexts before o tv (sequence_right before o tv gv).in_sequence y (sequence_has before o tv gv y h) k i e
 
       started : (k : Node) → k ∈ tv → k.attachment ≡ p → Starts before o tv (behind p (sequence before tv))
       started k i e = followed before o tv gv p origin_tv k i e
@@ -487,9 +477,9 @@ module _ (before : Name → Name → Bool) (o : Ordered before) (t : Tree) (g : 
             rw (yes', attachment_refl p) (refl, at_left n fr.0 fr.1 (subst (λ j. Children before tv (left_of j.name) []) fa a.3))
 
         no_left : (q : Attachment) → Origin v q → (y : Name) → q ≡ left_of y → ⊥
-        no_left root h y e = let z : ◌≡◌ {A = ℕ} 0 1 = cc in omega arith
+        no_left root h y e = grind arith
         no_left (left_of w) h y e = h
-        no_left (right_of w) h y e = let z : ◌≡◌ {A = ℕ} 0 1 = cc in omega arith
+        no_left (right_of w) h y e = grind arith
 
         -- the home says which way the answer turns along the run
         pub home_right : home d s p (only v (behind p s)) ≡ p → Falls (λ n. top_precedes before x (top_outside d s v p n.name)) mid

@@ -3,6 +3,7 @@ use Rattle.std.proofs.Common.{◌≡◌, ℕ, ◌+◌, ◌≤◌, Bool, true, fa
 use Rattle.std.specs.List.{AllByRecursion}
 use Rattle.std.proofs.lemmas.Bool.{both_ways, cases_Bool, or_from, or_left, and_parts, and_from}
 use Rattle.std.proofs.ByRecursion.{All-weaker}
+use Rattle.std.proofs.lemmas.Bool.{false_from_ne_true}
 use Rattle.events.specs.declared.name.Name.{Name}
 use Rattle.events.specs.declared.character.Character.{Character}
 use Rattle.fugue.proofs.Grown.{inside}
@@ -11,16 +12,16 @@ use Rattle.fugue.specs.Paths.{path, path_before}
 use Rattle.fugue.specs.Placements.{after, attached_by}
 use Rattle.fugue.specs.Tree.{sorted, Attachment, root, left_of, right_of, Node, Tree, children, sequence, AttachedTo, only, ClosedPart, has_node, Grown, Children}
 use Rattle.fugue.proofs.Beside.{up_to_after, after_append}
-use Rattle.fugue.proofs.Grown.{has_own, node_of_lem}
 use Rattle.fugue.proofs.Leaf.{leaf}
 use Rattle.fugue.proofs.Lists.{all_member, all_members, kept_member, member_kept, rises_kept, all_both}
 use Rattle.fugue.proofs.Names.{same_own, same_not}
+use Rattle.fugue.proofs.Paths.{tree_has}
 use Rattle.walk_theory.specs.Origins.{Origin, behind, front, new_node}
 use Rattle.walk_theory.specs.Bases.{attached_over, grown_over, OnLater, LaterNodes, node_names, Agrees}
 use Rattle.walk_theory.specs.Agreement.{GrewAlike}
 use Rattle.walk_theory.specs.Standing.{Stands, in_chain, chain_tree, StepStands}
 use Rattle.walk_theory.proofs.Gaps.{at_gap}
-use Rattle.walk_theory.proofs.Search.{apart, in_t, origin_like, finds}
+use Rattle.walk_theory.proofs.Search.{apart, origin_like, finds}
 use Rattle.walk_theory.proofs.Bases.{names_in, names_from, alike_from, g_t, gt, twins}
 use Rattle.walk_theory.proofs.Agreement.{closed_small, grows}
 
@@ -83,10 +84,7 @@ module _ (before : Name → Name → Bool) (o : Ordered before) where
     pub is : sequence before (chain_tree t q l) ≡ sequence before t ++ in_chain q l
 
   not_in_s : (t : Tree) → Grown t → (x : Name) → has_node t x ≡ false → has_node (sequence before t) x ≡ false
-  not_in_s t g x f = elim (cases_Bool (has_node (sequence before t) x)) [
-    | inl h ↦ let r = node_of_lem (sequence before t) x h in absurd (both_ways _ f (subst (λ z. has_node t z ≡ true) r.2 (all_member _ t r.0 (has_own t) (in_t before o t g r.0 r.1))))
-    | inr h ↦ h
-  ]
+  not_in_s t g x f = false_from_ne_true (has_node (sequence before t) x) (λ h. both_ways _ f (tree_has before o t g x h))
 
   chain : (l : List Node) (t : Tree) → Grown t → (q : Attachment) → Origin (has_node t) q → Children before t q [] → front q (sequence before t) ≡ sequence before t → behind q (sequence before t) ≡ []
       → AllByRecursion (λ n. has_node t n.name ≡ false) l → Rising (λ m n. m.name ≡ n.name → ⊥) l → Chained t q l
@@ -149,7 +147,7 @@ module _ (before : Name → Name → Bool) (o : Ordered before) (big small : Tre
         let t = grown_over before small later in
         let b = alike_from before o big small gb gs ag in
         let g : Grown t = gt before o big small gb gs ag.within b later l in
-        let q' : Origin (λ y. has_node t y && v y) p = origin_like _ _ (λ y h. let k = and_parts (has_node (sequence before t) y) (v y) h in and_from _ _ (named_back t g y k.0) k.1) p q in
+        let q' : Origin (λ y. has_node t y && v y) p = origin_like _ _ (λ y h. let k = and_parts (has_node (sequence before t) y) (v y) h in and_from _ _ (tree_has before o t g y k.0) k.1) p q in
         let gr = grows before o big small gb gs ag v all later l cl p q' x c fx in
         let fd = finds before o t g v (closed_small before o big small gb gs ag v all later l cl) p q' x (not_in_small t g gr) d (omega (arith, long_as before o t g)) c in
         record {
@@ -164,14 +162,8 @@ module _ (before : Name → Name → Bool) (o : Ordered before) (big small : Tre
           };
         }
       where
-        named_back : (t : Tree) → Grown t → (y : Name) → has_node (sequence before t) y ≡ true → has_node t y ≡ true
-        named_back t g y h = let r = node_of_lem (sequence before t) y h in subst (λ z. has_node t z ≡ true) r.2 (all_member _ t r.0 (has_own t) (in_t before o t g r.0 r.1))
-
         not_in_small : (t : Tree) → Grown t → GrewAlike before big small later v p x c → has_node (grown_over before small later) x ≡ false
-        not_in_small t g gr = elim (cases_Bool (has_node (grown_over before small later) x)) [
-          | inl h ↦ absurd (both_ways _ fx ((twins before o big small gb gs ag later l).within x h))
-          | inr h ↦ h
-        ]
+        not_in_small t g gr = false_from_ne_true (has_node (grown_over before small later) x) (λ h. both_ways _ fx ((twins before o big small gb gs ag later l).within x h))
 
     pub walks : (whole : Tree) (listed : List Node) → Stands before big small later whole listed → Goes whole listed
     walks whole listed st = subst₂ Goes (sym st.is_whole) (sym st.is_listed) (core st.old st.kept st.agree st.laid)
@@ -207,9 +199,6 @@ module _ (before : Name → Name → Bool) (o : Ordered before) (big small : Tre
 
   pub listed_from : (y : Name) → y ∈ node_names listed → has_node t y ≡ true
   listed_from y i = names_from before o t grown_t y (rw st.is_listed at i)
-
-  pub apart_listed : Rising (λ m n. m.name ≡ n.name → ⊥) listed
-  apart_listed = rw st.is_listed (apart before o t grown_t)
 
   module _ (keep : Name → Bool) where
     abbrev l : List Node

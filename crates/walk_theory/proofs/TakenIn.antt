@@ -29,8 +29,8 @@ use Rattle.walk_theory.proofs.Counted.{insert_edit, delete_edit}
 -- a place in a list, by its names
 nth_like : {Y : Type 0} (f : Name → Y) (a b : List Node) → node_names a ≡ node_names b → (p : ℕ) → option_map (λ n. f n.name) (slice_get a p) ≡ option_map (λ n. f n.name) (slice_get b p)
 nth_like f [] [] e p = refl
-nth_like f [] (n ∷ b) e p = absurd (let z : ◌≡◌ {A = ℕ} 0 1 = cc in omega arith)
-nth_like f (m ∷ a) [] e p = absurd (let z : ◌≡◌ {A = ℕ} 0 1 = cc in omega arith)
+nth_like f [] (n ∷ b) e p = absurd (grind arith)
+nth_like f (m ∷ a) [] e p = absurd (grind arith)
 nth_like f (m ∷ a) (n ∷ b) e zero = let q : m.name ≡ n.name = cc in ap (λ x. Some (f x)) q
 nth_like f (m ∷ a) (n ∷ b) e (suc p) = let q : node_names a ≡ node_names b = cc in nth_like f a b q p
 
@@ -43,8 +43,8 @@ target_like a b e p = ap (λ z. unwrap_or z beyond) (nth_like deleted a b e p)
 
 origin_passes : (pass : Name → Bool) (ns : List Node) → AllByRecursion (λ n. pass n.name ≡ true) ns → (p : ℕ) (q : LeftOrigin) → left_origin ns p ≡ Some q → Origin pass (right_end_of q)
 origin_passes pass ns a p start e = tt
-origin_passes pass ns a zero (node y) e = absurd (let z : ◌≡◌ {A = ℕ} 0 1 = cc in omega arith)
-origin_passes pass [] a (suc p) (node y) e = absurd (let z : ◌≡◌ {A = ℕ} 0 1 = cc in omega arith)
+origin_passes pass ns a zero (node y) e = absurd (grind arith)
+origin_passes pass [] a (suc p) (node y) e = absurd (grind arith)
 origin_passes pass (n ∷ ns) a (suc zero) (node y) e = let z : n.name ≡ y = cc in rw z at a.0
 origin_passes pass (n ∷ ns) a (suc (suc p)) (node y) e = origin_passes pass ns a.1 (suc p) (node y) e
 

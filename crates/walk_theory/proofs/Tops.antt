@@ -1,9 +1,10 @@
 -- A node's order beside a new node goes by its top.
-use Rattle.std.proofs.Common.{◌≡◌, ℕ, Bool, true, false, cond, ◌⊎◌, List, [], ◌∷◌, ◌++◌, length, Some, None, Option, sym, refl, ap, ◌∙◌, inl, inr, append_assoc, arith, length-append}
+use Rattle.std.proofs.Common.{◌≡◌, Bool, true, false, cond, ◌⊎◌, List, [], ◌∷◌, ◌++◌, length, Some, None, Option, sym, refl, ap, ◌∙◌, inl, inr, append_assoc, arith, length-append}
 use Rattle.std.specs.List.{AllByRecursion}
 use Rattle.std.proofs.lemmas.Bool.{both_ways, cases_Bool}
 use Rattle.std.proofs.lemmas.List.{same_from_push}
 use Rattle.std.proofs.ByRecursion.{All-weaker}
+use Rattle.std.proofs.lemmas.Option.{none-some, same_Some}
 use Rattle.events.specs.declared.name.Name.{Name}
 use Rattle.fugue.proofs.Grown.{inside}
 use Rattle.fugue.specs.Names.{Ordered, ◌∈◌}
@@ -59,15 +60,6 @@ tops (n ∷ older) q g = (
       (all_both _ _ older (inside older g.2) (tops older q g.2)),
 )
 
-pub some_is : (a b : Name) → ◌≡◌ {A = Option Name} (Some a) (Some b) → a ≡ b
-some_is a b h = cc
-
-pub none_some : (a : Name) → ◌≡◌ {A = Option Name} None (Some a) → ⊥
-none_some a h = let z : ◌≡◌ {A = ℕ} 0 1 = cc in omega arith
-
-low_high : (a b : Name) → left a ≡ right b → ⊥
-low_high a b h = let z : ◌≡◌ {A = ℕ} 0 1 = cc in omega arith
-
 module _ (t : Tree) (g : Grown t) (q : Attachment) where
   abbrev w : Name → List Step
   w = steps t
@@ -78,7 +70,7 @@ module _ (t : Tree) (g : Grown t) (q : Attachment) where
 
   through_below : (n : Node) (p : Attachment) (x : Name) → w n.name ≡ steps_to w p n.name → Hangs Through p → by_owner (top_at t q) p ≡ Some x
       → (r : List Step) × (w n.name ≡ base w q ++ side q x ∷ r)
-  through_below n root x e h s = absurd (none_some x s)
+  through_below n root x e h s = absurd (none-some x s)
   through_below n (left_of y) x e h s =
       let i = h x s in (i.0 ++ left n.name ∷ [], e ∙ ap (λ z. z ++ left n.name ∷ []) i.1 ∙ append_assoc (base w q) (side q x ∷ i.0) (left n.name ∷ []))
   through_below n (right_of y) x e h s =
@@ -90,7 +82,7 @@ module _ (t : Tree) (g : Grown t) (q : Attachment) where
       let e = all_member _ t n (stepped t g) i in
       elim (cases_Bool (same_attachment n.attachment q)) [
         | inl f ↦
-            let k : n.name ≡ x = some_is n.name x (sym (rw f at d) ∙ s) in
+            let k : n.name ≡ x = same_Some n.name x (sym (rw f at d) ∙ s) in
             ([], e ∙ steps_are w n.attachment n.name ∙ (λ j. base w (attachment_is n.attachment q f j) ++ side (attachment_is n.attachment q f j) (k j) ∷ []))
         | inr f ↦ through_below n n.attachment x e h (sym (rw f at d) ∙ s)
       ]
@@ -103,7 +95,7 @@ module _ (t : Tree) (g : Grown t) (q : Attachment) where
   Found y = (x : Name) → top_at t q y ≡ Some x → (m : Node) × (m ∈ t) × (m.name ≡ x) × (m.attachment ≡ q)
 
   found_below : (p : Attachment) (x : Name) → Hangs Found p → by_owner (top_at t q) p ≡ Some x → (m : Node) × (m ∈ t) × (m.name ≡ x) × (m.attachment ≡ q)
-  found_below root x h s = absurd (none_some x s)
+  found_below root x h s = absurd (none-some x s)
   found_below (left_of y) x h s = h x s
   found_below (right_of y) x h s = h x s
 
@@ -111,7 +103,7 @@ module _ (t : Tree) (g : Grown t) (q : Attachment) where
   found_step n i h x s =
       let d = all_member _ t n (tops t q g) i in
       elim (cases_Bool (same_attachment n.attachment q)) [
-        | inl f ↦ (n, i, some_is n.name x (sym (rw f at d) ∙ s), attachment_is n.attachment q f)
+        | inl f ↦ (n, i, same_Some n.name x (sym (rw f at d) ∙ s), attachment_is n.attachment q f)
         | inr f ↦ found_below n.attachment x h (sym (rw f at d) ∙ s)
       ]
 
@@ -163,13 +155,13 @@ module _ (before : Name → Name → Bool) (o : Ordered before) (t : Tree) (g : 
 
   place_by : (p q : Attachment) (x y : Name) → AttachedTo (has_node t) p → AttachedTo (has_node t) q → base (steps t) p ≡ base (steps t) q → side p x ≡ side q y → p ≡ q
   place_by root root x y h k e f = refl
-  place_by root (left_of b) x y h k e f = absurd (low_high y x (sym f))
+  place_by root (left_of b) x y h k e f = absurd (grind arith)
   place_by root (right_of b) x y h k e f = absurd (long t g b k (sym e))
-  place_by (left_of a) root x y h k e f = absurd (low_high x y f)
+  place_by (left_of a) root x y h k e f = absurd (grind arith)
   place_by (left_of a) (left_of b) x y h k e f = ap left_of (way_is a b h k e)
-  place_by (left_of a) (right_of b) x y h k e f = absurd (low_high x y f)
+  place_by (left_of a) (right_of b) x y h k e f = absurd (grind arith)
   place_by (right_of a) root x y h k e f = absurd (long t g a h e)
-  place_by (right_of a) (left_of b) x y h k e f = absurd (low_high y x (sym f))
+  place_by (right_of a) (left_of b) x y h k e f = absurd (grind arith)
   place_by (right_of a) (right_of b) x y h k e f = ap right_of (way_is a b h k e)
 
   module _ (q : Attachment) (rq : AttachedTo (has_node t) q) where
@@ -187,7 +179,7 @@ module _ (before : Name → Name → Bool) (o : Ordered before) (t : Tree) (g : 
         let d = all_member _ t n (tops t q g) i in
         let f = sym (steps_are (steps t) n.attachment n.name) ∙ sym (all_member _ t n (stepped t g) i) ∙ e in
         elim (cases_Bool (same_attachment n.attachment q)) [
-          | inl k ↦ none_some n.name (sym s ∙ rw k at d)
+          | inl k ↦ none-some n.name (sym s ∙ rw k at d)
           | inr k ↦ elim (cut_last (base (steps t) n.attachment) (base (steps t) q) r (side n.attachment n.name) (side q x) f) [
             | inl j ↦ both_ways _ k (rw (place_by n.attachment q n.name x (all_member _ t n (inside t g) i).1 rq j.0 j.1) (attachment_refl q))
             | inr j ↦ past_below n.attachment x j.0 h (sym (rw k at d) ∙ s) j.1
@@ -206,16 +198,16 @@ module _ (before : Name → Name → Bool) (o : Ordered before) (t : Tree) (g : 
   ]
     where
       no_end : (q : Attachment) (x : Name) → end ≡ side q x → ⊥
-      no_end root x e = let z : ◌≡◌ {A = ℕ} 0 1 = cc in omega arith
-      no_end (left_of y) x e = let z : ◌≡◌ {A = ℕ} 0 1 = cc in omega arith
-      no_end (right_of y) x e = let z : ◌≡◌ {A = ℕ} 0 1 = cc in omega arith
+      no_end root x e = grind arith
+      no_end (left_of y) x e = grind arith
+      no_end (right_of y) x e = grind arith
 
   -- at the root all have a top
   abbrev Topped : Name → Type 0
   Topped y = top_at t root y ≡ None → ⊥
 
   topped_at : (n : Node) (p : Attachment) → top_at t root n.name ≡ cond (same_attachment p root) (Some n.name) (by_owner (top_at t root) p) → Hangs Topped p → Topped n.name
-  topped_at n root d h s = none_some n.name (sym s ∙ d)
+  topped_at n root d h s = none-some n.name (sym s ∙ d)
   topped_at n (left_of y) d h s = h (sym d ∙ s)
   topped_at n (right_of y) d h s = h (sym d ∙ s)
 
