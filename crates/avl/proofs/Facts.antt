@@ -1,15 +1,17 @@
 -- What the ghost fields of an AVL index say, as facts about its tree.
-use Rattle.std.proofs.Common.{◌≡◌, ℕ, ◌<◌, ◌≤◌, true, false, ltb, List, [], ◌∷◌, ◌++◌, length, get_or, set, Some, None, vec_items, vec_len, Option, sym, refl, ap, ◌∙◌, subst, arith, ltb-true}
+use Rattle.std.proofs.Common.{◌≡◌, ℕ, ◌<◌, ◌≤◌, Bool, true, false, cond, leb, ltb, take, List, [], ◌∷◌, ◌++◌, length, get_or, set, Some, None, vec_items, vec_len, Option, sym, refl, ap, ◌∙◌, subst, arith, ltb-true}
 use lib.ListN.{length-map}
+use Rattle.indexes.specs.Entries.{is_present}
 use Rattle.std.specs.List.{insert, slice_get}
+use Rattle.std.specs.Bool.{then_some}
 use Rattle.indexes.specs.Changes.{at_place, trimmed}
 use Rattle.indexes.specs.declared.entry.Entry.{Entry}
 use Rattle.indexes.proofs.Apart.{away_unfound}
 use Rattle.indexes.proofs.Places.{place_of_away}
 use Rattle.std.proofs.lemmas.Option.{slice_get_read}
 use Rattle.indexes.specs.Laws.{Distinct}
-use Rattle.indexes.specs.Questions.{characters, listed, place_of}
-use Rattle.avl.specs.Avl.{avl_tree_of, avl_entries}
+use Rattle.indexes.specs.Questions.{characters, listed, place_of, count, before}
+use Rattle.avl.specs.Avl.{avl_tree_of, avl_entries, avl_room}
 use Rattle.avl.specs.declared.index.AvlIndex.{AvlIndex}
 use Rattle.avl_tree.specs.declared.node.Node.{Node}
 use Rattle.avl_tree.specs.Builds.{Builds}
@@ -39,7 +41,7 @@ pub count_of : (s : AvlIndex) → vec_len s.nodes ≡ length (avl_entries s)
 count_of s = s.nodes.ok.0 ∙ sym s.sized ∙ size_entries (avl_tree_of s)
 
 pub small_of : (s : AvlIndex) → size (avl_tree_of s) ≤ 65536
-small_of s = omega (arith, size_entries (avl_tree_of s), s.within, s.small)
+small_of s = omega (arith, size_entries (avl_tree_of s), s.within)
 
 -- the same at a slice of the nodes
 pub held_at : (s : AvlIndex) (ns : List Node) → ns ≡ vec_items s.nodes → Held ns s.root (avl_tree_of s)
@@ -53,6 +55,15 @@ stood_at s ns is = record { held = held_at s ns is; apart = (whole_of s).apart_a
 
 pub named_at : (s : AvlIndex) (ns : List Node) → ns ≡ vec_items s.nodes → Named ns (vec_items s.directory)
 named_at s ns is = subst (λ (ms : List Node). Named ms (vec_items s.directory)) (sym is) s.named
+
+then_cond : (b : Bool) (r : ℕ) → then_some b r ≡ cond b (Some r) None
+then_cond true r = refl
+then_cond false r = refl
+
+-- how many are present before a place, and no answer beyond the length
+pub before_is : (s : AvlIndex) (place len r : ℕ) → len ≡ vec_len s.nodes → r ≡ count is_present (take place (avl_entries s)) → then_some (leb place len) r ≡ before is_present (avl_entries s) place
+before_is s place len r long counted =
+    then_cond (leb place len) r ∙ ap (λ k. cond (leb place k) (Some r) None) (long ∙ count_of s) ∙ ap (λ k. cond (leb place (length (avl_entries s))) (Some k) None) counted
 
 -- where the directory leads for a character
 pub leads_at : (s : AvlIndex) (c i : ℕ) → c < 65536 → i ≡ get_or (vec_items s.directory) c i → slice_get (vec_items s.directory) c ≡ Some i
@@ -114,23 +125,23 @@ pub pushed : (s : AvlIndex) (x : Entry) (n : Node) (all more : List Node) → mo
 pushed s x n all more same at is = same ∙ at ∙ ap (λ (m : Node). vec_items s.nodes ++ m ∷ []) is
 
 -- what a put of it asks
-pub sprouts : (s : AvlIndex) (place new : ℕ) (x : Entry) (more : List Node) → place ≤ length (avl_entries s) → length (avl_entries s) < s.room → more ≡ vec_items s.nodes ++ cell None leaf x leaf ∷ [] → new ≡ vec_len s.nodes → Sprout more s.root place new (avl_tree_of s) x
+pub sprouts : (s : AvlIndex) (place new : ℕ) (x : Entry) (more : List Node) → place ≤ length (avl_entries s) → length (avl_entries s) < avl_room s → more ≡ vec_items s.nodes ++ cell None leaf x leaf ∷ [] → new ≡ vec_len s.nodes → Sprout more s.root place new (avl_tree_of s) x
 sprouts s place new x more low room more_is new_is =
     let ns = vec_items s.nodes in
     let t = avl_tree_of s in
     let count = size_entries t in
-    let sprout = sprout_new ns s.root t place x (whole_of s) (omega (arith, count, low)) (omega (arith, count, room, s.small)) in
+    let sprout = sprout_new ns s.root t place x (whole_of s) (omega (arith, count, low)) (omega (arith, count, room)) in
     subst (λ (qs : List Node). Sprout qs s.root place new t x) (sym more_is) (subst (λ k. Sprout (ns ++ cell None leaf x leaf ∷ []) s.root place k t x) (sym (new_is ∙ s.nodes.ok.0)) sprout)
 
 -- the nodes after the put
-pub inserted : (s : AvlIndex) (place new r : ℕ) (x : Entry) (more ms ks : List Node) → place ≤ length (avl_entries s) → listed (avl_entries s) x.character ≡ false → length (avl_entries s) < s.room → more ≡ vec_items s.nodes ++ cell None leaf x leaf ∷ [] → new ≡ vec_len s.nodes → x.character < 65536 → Puts more ms s.root place new r → ks ≡ adopted ms (Some r) None → Facts ks (Some r) (set (vec_items s.directory) x.character new) (insert (avl_entries s) place x)
+pub inserted : (s : AvlIndex) (place new r : ℕ) (x : Entry) (more ms ks : List Node) → place ≤ length (avl_entries s) → listed (avl_entries s) x.character ≡ false → length (avl_entries s) < avl_room s → more ≡ vec_items s.nodes ++ cell None leaf x leaf ∷ [] → new ≡ vec_len s.nodes → x.character < 65536 → Puts more ms s.root place new r → ks ≡ adopted ms (Some r) None → Facts ks (Some r) (set (vec_items s.directory) x.character new) (insert (avl_entries s) place x)
 inserted s place new r x more ms ks low fresh room more_is new_is small puts is =
     let ns = vec_items s.nodes in
     let t = avl_tree_of s in
     let count = size_entries t in
     let new_at : new ≡ length ns = new_is ∙ s.nodes.ok.0 in
     let within : place ≤ size t = omega (arith, count, low) in
-    let whole = whole_insert ns more ms ks s.root t place new r x (whole_of s) within (omega (arith, count, room, s.small)) more_is new_at puts is in
+    let whole = whole_insert ns more ms ks s.root t place new r x (whole_of s) within (omega (arith, count, room)) more_is new_at puts is in
     let away = no_name ns s.root t x.character (whole_of s) (small_of s) (away_unfound x.character (avl_entries s) fresh) in
     let named = named_insert ns more ms ks (vec_items s.directory) s.root place new r x s.named away (omega (arith, s.wide, s.directory.ok.0, small)) more_is new_at puts is in
     facts ks (Some r) (set (vec_items s.directory) x.character new) (put t place (length ns) x) _ whole named (inserts t place (length ns) x within).written

@@ -1,7 +1,7 @@
 //! What changes the tree of an AVL index. That a call keeps the room is a clause of each: it is a fact of two values,
 //! before and after, which the invariant of one cannot say.
 ghost use Rattle.std.specs.Prelude.{◌≡◌, ◌<◌, ◌≤◌, false, length, nat_lt};
-ghost use Rattle.avl.specs.Avl.{avl_entries};
+ghost use Rattle.avl.specs.Avl.{avl_entries, avl_room};
 ghost use Rattle.avl_tree.specs.Changes.{applied};
 ghost use Rattle.indexes.specs.Changes.{at_place};
 ghost use Rattle.indexes.specs.Questions.{listed};
@@ -19,9 +19,9 @@ impl AvlIndex {
     pub(crate) fn insert(&mut self, place: usize, entry: Entry)
         requires within { place ≤ length (avl_entries self.old) }
         requires new { listed (avl_entries self.old) entry.character ≡ false }
-        requires room { length (avl_entries self.old) < self.old.room }
+        requires room { length (avl_entries self.old) < avl_room self.old }
         ensures after { avl_entries self.new ≡ insert (avl_entries self.old) place entry }
-        ensures kept { self.new.room ≡ self.old.room }
+        ensures kept { avl_room self.new ≡ avl_room self.old }
     {
         let new = self.nodes.len() as u16;
         self.nodes.push_reserved(Node::leaf(entry));
@@ -36,7 +36,7 @@ impl AvlIndex {
     pub(crate) fn change(&mut self, place: usize, change: Change) -> bool
         ensures answer { result ≡ nat_lt place (length (avl_entries self.old)) }
         ensures after { avl_entries self.new ≡ at_place (applied change) (avl_entries self.old) place }
-        ensures kept { self.new.room ≡ self.old.room }
+        ensures kept { avl_room self.new ≡ avl_room self.old }
     {
         let nodes = self.nodes.as_mut_slice();
         revise_below(nodes, self.root, place, change);

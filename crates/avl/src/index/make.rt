@@ -17,13 +17,11 @@ impl AvlIndex {
             return None;
         }
         nodes.clear();
-        let room = nodes.capacity().min(spare.capacity()).min(65_536);
         Some(AvlIndex {
             nodes,
             root: None,
             directory,
             spare,
-            room,
         })
     }
 }

@@ -16,7 +16,7 @@ impl PositionIndex for AvlIndex {
     ghost laws = { avl_laws };
 
     fn capacity(&self) -> usize {
-        self.room
+        self.nodes.capacity().min(self.spare.capacity()).min(65_536)
     }
 
     fn len(&self) -> usize {
@@ -51,16 +51,13 @@ impl PositionIndex for AvlIndex {
     }
 
     fn present_before(&self, place: usize) -> Option<usize> {
-        // no list is read at the place: below it stands a number for any place
-        if place > self.nodes.len() {
-            return None;
-        }
-        Some(present_below(&self.nodes, self.root, place))
+        // not `then`: what its closure answers is out of a proof's reach, and below any place stands a number
+        (place <= self.nodes.len()).then_some(present_below(&self.nodes, self.root, place))
     }
 
     fn put(&mut self, place: usize, entry: Entry) -> bool {
         let count = self.nodes.len();
-        if place > count || count >= self.room || self.place_of(entry.character).is_some() {
+        if place > count || count >= self.capacity() || self.place_of(entry.character).is_some() {
             return false;
         }
         self.insert(place, entry);

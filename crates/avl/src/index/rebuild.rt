@@ -1,6 +1,6 @@
 //! The tree of an AVL index, built anew from its trimmed entries.
 ghost use Rattle.std.specs.Prelude.{◌≡◌, ◌≤◌, length, vec_capacity};
-ghost use Rattle.avl.specs.Avl.{avl_entries};
+ghost use Rattle.avl.specs.Avl.{avl_entries, avl_room};
 ghost use Rattle.avl_tree.specs.Shape.{Named};
 ghost use Rattle.avl_tree.specs.Nodes.{held_entries};
 ghost use Rattle.indexes.specs.Changes.{trimmed};
@@ -35,7 +35,7 @@ impl AvlIndex {
     /// Trims the entries, and builds a tree of what is left.
     pub(crate) fn rebuild(&mut self)
         ensures after { avl_entries self.new ≡ trimmed (avl_entries self.old) }
-        ensures kept { self.new.room ≡ self.old.room }
+        ensures kept { avl_room self.new ≡ avl_room self.old }
     {
         self.spare.clear();
         collect_below(&self.nodes, self.root, &mut self.spare);

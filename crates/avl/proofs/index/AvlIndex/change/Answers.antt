@@ -40,9 +40,6 @@ invariant_of-self c =
       distinct = g.distinct;
       wide = s.wide;
       within = omega (arith, same, s.within);
-      reserved = s.reserved;
-      spared = s.spared;
-      small = s.small;
     }
 
 pub returns-clause-answer : goal.returns-clause-answer

@@ -11,12 +11,12 @@ use Rattle.avl.proofs.index.AvlIndex.insert.Goals as goal
 pub overflow_cast-new : goal.overflow_cast-new
 overflow_cast-new c =
     let s = c.args.self.now in
-    omega (arith, c.len-new.ensures, count_of s, c.requires.room, s.small)
+    omega (arith, c.len-new.ensures, count_of s, c.requires.room)
 
 pub push_reserved-requires : goal.push_reserved-requires
 push_reserved-requires c =
     let s = c.args.self.now in
-    omega (arith, count_of s, c.requires.room, s.reserved)
+    omega (arith, count_of s, c.requires.room)
 
 pub put_below-root-requires : goal.put_below-root-requires
 put_below-root-requires c =
@@ -57,10 +57,7 @@ invariant_of-self c =
       named = g.named;
       distinct = g.distinct;
       wide = s.wide;
-      within = omega (arith, long, c.requires.room);
-      reserved = omega (arith, c.push_reserved.ensures.capacity, s.reserved);
-      spared = s.spared;
-      small = s.small;
+      within = omega (arith, long, c.requires.room, c.push_reserved.ensures.capacity);
     }
 
 pub returns-clause-after : goal.returns-clause-after

@@ -16,7 +16,4 @@ invariant_of-result c =
       distinct = g.distinct;
       wide = omega arith;
       within = omega (arith, ap length g.meaning);
-      reserved = omega (arith, c.clear.ensures.capacity);
-      spared = omega arith;
-      small = omega arith;
     }

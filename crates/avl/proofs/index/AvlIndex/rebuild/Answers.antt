@@ -17,7 +17,7 @@ use Rattle.avl.proofs.index.AvlIndex.rebuild.Goals as goal
 pub collect_below-requires : goal.collect_below-requires
 collect_below-requires c =
     let s = c.args.self.now in
-    (avl_tree_of s, held_at s c.deref.result.now c.deref.ensures.value, omega (arith, c.clear.ensures.len, c.clear.ensures.capacity, size_entries (avl_tree_of s), s.within, s.spared))
+    (avl_tree_of s, held_at s c.deref.result.now c.deref.ensures.value, omega (arith, c.clear.ensures.len, c.clear.ensures.capacity, size_entries (avl_tree_of s), s.within))
 
 pub lay_out-requires : goal.lay_out-requires
 lay_out-requires c =
@@ -27,8 +27,8 @@ lay_out-requires c =
     let at = c.deref-2.ensures.value ∙ spare_is in
     let count = ap length at in
     record {
-      room = omega (arith, count, length_trimmed es, s.within, s.reserved);
-      small = omega (arith, count, length_trimmed es, s.within, s.small);
+      room = omega (arith, count, length_trimmed es, s.within);
+      small = omega (arith, count, length_trimmed es, s.within);
       wide = c.deref_mut.ensures.len ∙ s.wide;
       distinct = subst (λ xs. Distinct (characters xs)) (sym at) (distinct_trimmed es s.distinct);
     }
@@ -40,7 +40,7 @@ build-self-requires-clause-small c =
     let spare_is = spared s c.deref.result.now _ _ _ c.deref.ensures.value c.clear.ensures.items c.collect_below.ensures.after c.trim_cells.ensures.after in
     let v = c.as_mut_slice-nodes in
     let long = laid_length v.result.now (trimmed es) (ap held_entries v.ensures.value ∙ c.lay_out.ensures.after ∙ c.deref-2.ensures.value ∙ spare_is) in
-    omega (arith, long, length_trimmed es, s.within, s.small)
+    omega (arith, long, length_trimmed es, s.within)
 
 pub adopt-requires : goal.adopt-requires
 adopt-requires c i is =
@@ -70,10 +70,7 @@ invariant_of-self c =
       named = g.named;
       distinct = g.distinct;
       wide = s.wide;
-      within = omega (arith, ap length g.meaning, length_trimmed es, s.within);
-      reserved = omega (arith, c.lay_out.ensures.kept, s.reserved);
-      spared = omega (arith, c.trim_cells.ensures.kept, c.collect_below.ensures.kept, c.clear.ensures.capacity, s.spared);
-      small = s.small;
+      within = omega (arith, ap length g.meaning, length_trimmed es, s.within, c.lay_out.ensures.kept, c.trim_cells.ensures.kept, c.collect_below.ensures.kept, c.clear.ensures.capacity);
     }
 
 pub returns-clause-after : goal.returns-clause-after

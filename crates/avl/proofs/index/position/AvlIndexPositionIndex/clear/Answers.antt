@@ -17,7 +17,4 @@ invariant_of-self c =
       distinct = g.distinct;
       wide = s.wide;
       within = omega (arith, ap length g.meaning);
-      reserved = omega (arith, c.clear.ensures.capacity, s.reserved);
-      spared = s.spared;
-      small = s.small;
     }

@@ -41,7 +41,7 @@ place_above-requires c =
     let l = located_at s v.result.now c.index-i.result.now c.in_ok-node.node.now v.ensures.value look.0 look.1 in
     let n = ap (λ (w : Weight). w.size) (c.weight_of-before.ensures l.lower l.left_held) in
     let within = slice_get_within (avl_entries s) (l.offset + size l.lower) l.entry l.stands in
-    (avl_tree_of s, node l.lower c.index-i.result.now l.entry l.upper, l.offset, l.climbs, omega (arith, n, within, s.within, s.small))
+    (avl_tree_of s, node l.lower c.index-i.result.now l.entry l.upper, l.offset, l.climbs, omega (arith, n, within, s.within))
 
 pub returns : goal.returns
 returns c =
