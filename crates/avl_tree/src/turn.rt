@@ -13,13 +13,12 @@ fn tie_at(nodes: &mut [Node], side: Side, near: Option<u16>, j: u16, far: Option
     requires { Ready nodes.old (at_side side near far) j (at_side side far near) }
     ensures { Makes joint nodes.old nodes.new (at_side side near far) j (at_side side far near) result }
 {
-    match side {
-        Side::Left => tie(nodes, near, j, far),
-        Side::Right => tie(nodes, far, j, near),
-    }
+    let (left, right) = side.order(near, far);
+    tie(nodes, left, j, right)
 }
 
 /// Joins two sides; the root of the near one comes up.
+// The side, the links and the node are no struct: each call joins others, and would build one to take it apart.
 pub fn turn(nodes: &mut [Node], side: Side, near: Option<u16>, j: u16, far: Option<u16>) -> u16
     requires { Ready nodes.old (at_side side near far) j (at_side side far near) }
     ensures { Makes (turned side) nodes.old nodes.new (at_side side near far) j (at_side side far near) result }
