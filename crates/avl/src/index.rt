@@ -14,7 +14,8 @@ mod make;
 pub mod position;
 mod rebuild;
 
-/// `spare` takes the entries while the tree is built anew. The smaller capacity of nodes and spare entries, at most
+/// The directory has a number for each of the 65,536 characters, in place of a map: it is handed over too, and no
+/// call takes memory. `spare` takes the entries while the tree is built anew. The smaller capacity of nodes and spare entries, at most
 /// 65,536, is the room: no change gives them other memory.
 #[derive(Drop)]
 pub struct AvlIndex {

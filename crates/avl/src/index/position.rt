@@ -51,7 +51,7 @@ impl PositionIndex for AvlIndex {
     }
 
     fn present_before(&self, place: usize) -> Option<usize> {
-        // not `then`: what its closure answers is out of a proof's reach, and below any place stands a number
+        // no `then`: the proof does not see what its closure answers, and `present_below` has an answer at any place
         (place <= self.nodes.len()).then_some(present_below(&self.nodes, self.root, place))
     }
 
