@@ -8,10 +8,10 @@ use Rattle.events.specs.declared.name.Name.{Name}
 use Rattle.fugue.specs.Names.{same, Ordered, ◌∈◌, Rising}
 use Rattle.fugue.specs.Paths.{path, path_before}
 use Rattle.fugue.specs.Tree.{Attachment, root, left_of, right_of, same_attachment, Node, Tree, sequence, AttachedTo, only, has_node, Grown}
-use Rattle.fugue.proofs.Grown.{named_sub, has_own, node_of_lem}
-use Rattle.fugue.proofs.Lists.{all_member, all_members, kept_member, member_kept, rises_kept, rises_cases, members_decide, all_both}
+use Rattle.fugue.proofs.Grown.{named_sub, node_in, node_of_lem, has_only, only_has}
+use Rattle.fugue.proofs.Lists.{map_member, member_map, all_member, all_members, rises_kept, rises_cases, members_decide, all_both}
 use Rattle.fugue.proofs.Names.{same_name, same_own, attachment_is, attachment_refl}
-use Rattle.fugue.proofs.Paths.{path_transitive, by_paths, members}
+use Rattle.fugue.proofs.Paths.{path_transitive, by_paths, sequence_has, tree_has}
 use Rattle.walk_theory.specs.Tops.{by_owner, top_at, beside_owner, comes_before}
 use Rattle.walk_theory.specs.Bases.{home_in, attached_over, node_over, grown_over, OnLater, LaterNodes, node_names, Agrees}
 use Rattle.walk_theory.proofs.Tops.{tops}
@@ -26,16 +26,6 @@ module _ {X : Type 0} where
   rising_in P R S h [] a r = tt
   rising_in P R S h (x ∷ l) a r = (All-weaker _ _ (λ y k. h x y a.0 k.0 k.1) l (all_both P (R x) l a.1 r.0), rising_in P R S h l a.1 r.1)
 
-  pub in_map : {Y : Type 0} (f : X → Y) (l : List X) (x : X) → x ∈ l → f x ∈ map f l
-  in_map f [] x i = elim i [ ]
-  in_map f (z ∷ l) x (inl e) = inl (ap f e)
-  in_map f (z ∷ l) x (inr i) = inr (in_map f l x i)
-
-  pub from_map : {Y : Type 0} (f : X → Y) (l : List X) (y : Y) → y ∈ map f l → (x : X) × (x ∈ l) × (f x ≡ y)
-  from_map f [] y i = elim i [ ]
-  from_map f (z ∷ l) y (inl e) = (z, inl refl, sym e)
-  from_map f (z ∷ l) y (inr i) = let r = from_map f l y i in (r.0, inr r.1, r.2)
-
   all_onto : {Y : Type 0} (f : X → Y) (P : Y → Type 0) (l : List X) → AllByRecursion (λ x. P (f x)) l → AllByRecursion P (map f l)
   all_onto f P [] a = tt
   all_onto f P (x ∷ l) a = (a.0, all_onto f P l a.1)
@@ -43,6 +33,13 @@ module _ {X : Type 0} where
   pub rising_map : {Y : Type 0} (f : X → Y) (R : Y → Y → Type 0) (l : List X) → Rising (λ x y. R (f x) (f y)) l → Rising R (map f l)
   rising_map f R [] a = tt
   rising_map f R (x ∷ l) a = (all_onto f (R (f x)) l a.0, rising_map f R l a.1)
+
+-- what a list has by name, its names have
+pub names_have : (l : List Node) (y : Name) → has_node l y ≡ true → y ∈ node_names l
+names_have l y h = let r = node_of_lem l y h in rw r.2 at (map_member (λ n. n.name) l r.0 r.1)
+
+has_names : (l : List Node) (y : Name) → y ∈ node_names l → has_node l y ≡ true
+has_names l y i = let r = member_map (λ n. n.name) l y i in rw r.2 (node_in l r.0 r.1)
 
 -- the node_names of a sequence
 module _ (before : Name → Name → Bool) (o : Ordered before) (t : Tree) (g : Grown t) where
@@ -53,25 +50,20 @@ module _ (before : Name → Name → Bool) (o : Ordered before) (t : Tree) (g : 
   names_rise = rising_map (λ n. n.name) Less (sequence before t) (by_paths before o t g)
 
   pub names_in : (y : Name) → has_node t y ≡ true → y ∈ node_names (sequence before t)
-  names_in y h = let r = node_of_lem t y h in subst (λ z. z ∈ node_names (sequence before t)) r.2 (in_map (λ n. n.name) (sequence before t) r.0 ((members before o t g r.0).1 r.1))
+  names_in y h = names_have (sequence before t) y (sequence_has before o t g y h)
 
   pub names_from : (y : Name) → y ∈ node_names (sequence before t) → has_node t y ≡ true
-  names_from y i = let r = from_map (λ n. n.name) (sequence before t) y i in subst (λ z. has_node t z ≡ true) r.2 (all_member _ t r.0 (has_own t) ((members before o t g r.0).0 r.1))
+  names_from y i = tree_has before o t g y (has_names (sequence before t) y i)
 
   module _ (p : Name → Bool) where
     pub part_rise : Rising Less (node_names (only p (sequence before t)))
     part_rise = rising_map (λ n. n.name) Less (only p (sequence before t)) (rises_kept _ _ (sequence before t) (by_paths before o t g))
 
     pub part_in : (y : Name) → has_node t y ≡ true → p y ≡ true → y ∈ node_names (only p (sequence before t))
-    part_in y h k =
-        let r = node_of_lem t y h in
-        subst (λ z. z ∈ node_names (only p (sequence before t))) r.2
-        (in_map (λ n. n.name) (only p (sequence before t)) r.0 (kept_member (λ n. p n.name) (sequence before t) r.0 (rw r.2 k) ((members before o t g r.0).1 r.1)))
+    part_in y h k = names_have (only p (sequence before t)) y (has_only p (sequence before t) y (sequence_has before o t g y h) k)
 
     pub part_from : (y : Name) → y ∈ node_names (only p (sequence before t)) → p y ≡ true
-    part_from y i =
-        let r = from_map (λ n. n.name) (only p (sequence before t)) y i in
-        subst (λ z. p z ≡ true) r.2 (member_kept (λ n. p n.name) (sequence before t) r.0 r.1).1
+    part_from y i = (only_has p (sequence before t) y (has_names (only p (sequence before t)) y i)).1
 
 -- two trees that order the nodes of the second alike
 module _ (before : Name → Name → Bool) (o : Ordered before) (big small : Tree) (gb : Grown big) (gs : Grown small) where

@@ -9,14 +9,14 @@ use Rattle.fugue.specs.Logs.{NewestFirst, version, Distinct}
 use Rattle.fugue.specs.Tree.{Node, Tree, sequence, only, node_names, ClosedPart, has_node, Grown}
 use Rattle.fugue.specs.Placements.{Placed, target_of, nodes, targets, struck, part_of, visible, placements, seen, tree_at, tree}
 use Rattle.fugue.proofs.Names.{has_append}
-use Rattle.fugue.proofs.Lists.{all_members, kept_whole, kept_like}
-use Rattle.fugue.proofs.Grown.{has_own, node_of_lem, inside}
+use Rattle.fugue.proofs.Lists.{all_members, map_member, kept_whole, kept_like}
+use Rattle.fugue.proofs.Grown.{has_own, inside}
 use Rattle.fugue.proofs.Nested.{sequence_part}
 use Rattle.fugue.proofs.Placed.{tree_part, grown_log, closed_log}
 use Rattle.walk_theory.specs.Bases.{grown_over}
 use Rattle.walk_theory.specs.Standing.{Stands}
 use Rattle.walk_theory.specs.Indexed.{Holds, Sees, unstruck, shown_at}
-use Rattle.walk_theory.proofs.Bases.{in_map, names_from}
+use Rattle.walk_theory.proofs.Bases.{names_have, names_from}
 use Rattle.walk_theory.proofs.Standing.{lists, names_only, kept_both, listed_from, within_whole}
 
 -- of a part of the whole tree, where what is not listed is struck
@@ -39,7 +39,7 @@ module _ (before : Name → Name → Bool) (o : Ordered before) (big small : Tre
   stay y i =
       let h = gone y (names_from before o whole grown_whole y i) in
       let k : has_node listed y ≡ true → has_node (grown_over before small later) y ≡ true
-      = λ e. let r = node_of_lem listed y e in listed_from before o big small later whole listed st y (subst (λ z. z ∈ node_names listed) r.2 (in_map (λ n. n.name) listed r.0 r.1)) in
+      = λ e. listed_from before o big small later whole listed st y (names_have listed y e) in
       weigh (v y) (struck ps y) (has_node listed y) (has_node (grown_over before small later) y) h k
     where
       weigh : (a b c d : Bool) → (c ≡ false → b ≡ true) → (c ≡ true → d ≡ true) → (a && not b) ≡ ((a && not b) && d)
@@ -101,7 +101,7 @@ module _ (before : Name → Name → Bool) (o : Ordered before) (log closed : Ne
   pub listed_whole : (n : Node) → n ∈ listed → has_node whole n.name ≡ true
   listed_whole n i =
       within_whole before o (tree before closed) small later whole listed h.stands n.name
-      (listed_from before o (tree before closed) small later whole listed h.stands n.name (in_map (λ m. m.name) listed n i))
+      (listed_from before o (tree before closed) small later whole listed h.stands n.name (map_member (λ m. m.name) listed n i))
 
   part_nodes : (heads : List Name) → nodes (seen before log heads) ≡ only (has (version log heads)) whole
   unfolding tree_at
