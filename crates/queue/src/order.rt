@@ -15,7 +15,7 @@ pub trait TotalOrder<T> {
 }
 
 // Event numbers, the largest first.
-#[derive(Clone, Copy)]
+#[derive(Clone, Copy, Debug, PartialEq, Eq)]
 pub struct LatestFirst;
 
 impl TotalOrder<u32> for LatestFirst {
