@@ -1,22 +1,21 @@
 -- A new event in two trees that grow alike.
-use Rattle.std.proofs.Common.{◌≡◌, Bool, true, false, not, ◌&&◌, List, [], ◌∷◌, sym, ap, ◌∙◌, subst₂, inl, inr}
-use Rattle.std.proofs.lemmas.Bool.{both_ways, cases_Bool, and_parts}
+use Rattle.std.proofs.Common.{◌≡◌, Bool, true, false, ◌&&◌, List, [], ◌∷◌, sym, ap, ◌∙◌, subst₂, inl, inr}
+use Rattle.std.proofs.lemmas.Bool.{both_ways, and_parts}
 use Rattle.std.proofs.ByRecursion.{All-weaker}
 use Rattle.std.proofs.lemmas.Bool.{false_from_ne_true}
 use Rattle.events.specs.declared.name.Name.{Name}
 use Rattle.events.specs.declared.character.Character.{Character}
 use Rattle.fugue.proofs.Grown.{inside}
-use Rattle.fugue.specs.Names.{same, Ordered}
+use Rattle.fugue.specs.Names.{Ordered}
 use Rattle.fugue.specs.Paths.{path, path_before}
 use Rattle.fugue.specs.Tree.{Attachment, root, left_of, right_of, Node, Tree, AttachedTo, only, ClosedPart, has_node, Grown}
 use Rattle.fugue.proofs.Grown.{attached_like, has_only}
-use Rattle.fugue.proofs.Names.{same_name, same_own}
 use Rattle.walk_theory.specs.Origins.{Origin, new_node}
 use Rattle.walk_theory.specs.Tops.{beside_owner}
 use Rattle.walk_theory.specs.Bases.{home_in, attached_over, grown_over, OnLater, LaterNodes, Agrees}
 use Rattle.walk_theory.specs.Agreement.{OneHome, GrewAlike}
 use Rattle.walk_theory.proofs.Search.{origin_like}
-use Rattle.walk_theory.proofs.Over.{either, home_attached, named_late, named_base, named_cases, late_new, spot_of}
+use Rattle.walk_theory.proofs.Over.{one_of, home_attached, named_late, named_base, named_cases, late_new, spot_of}
 use Rattle.walk_theory.proofs.Bases.{Alike, alike_from, laid_small, g_t, gt, within, beside_alike, alike, twins}
 use Rattle.walk_theory.proofs.Homes.{Home, new, old, home}
 
@@ -85,18 +84,12 @@ module _ (before : Name → Name → Bool) (o : Ordered before) (big small : Tre
     one : (m n : Name) → has_node later m ≡ true → has_node later n ≡ true → v m ≡ true → v n ≡ true → beside_owner before T p m ≡ false → beside_owner before t p n ≡ false
         → ((c : Name) → has_node T c ≡ true → v c ≡ true → path_before before (path T c) (path T m) ≡ beside_owner before T p c)
         → ((c : Name) → has_node t c ≡ true → v c ≡ true → path_before before (path t c) (path t n) ≡ beside_owner before t p c) → m ≡ n
-    one m n hm hn vm vn am an fm fn = elim (cases_Bool (same m n)) [
-      | inl e ↦ same_name m n e
-      | inr e ↦
-          let d : m ≡ n → ⊥ = λ z. both_ways _ e (rw z (same_own n)) in
-          let mT = named_late before o big gb K w later m hm in
-          let nT = named_late before o big gb K w later n hn in
-          let mt = named_late before o small gs K same' later m hm in
-          let nt = named_late before o small gs K same' later n hn in
-          let x = fm n nT vn ∙ asides n nt ∙ an in
-          let y = al m n mt nt ∙ fn m mt vm ∙ sym (asides m mt) ∙ am in
-          absurd (both_ways _ y (either before o T (g_t before o big small gb gs w base later l) m n mT nT d ∙ ap not x))
-    ]
+    one m n hm hn vm vn am an fm fn =
+        let mT = named_late before o big gb K w later m hm in
+        let nT = named_late before o big gb K w later n hn in
+        let mt = named_late before o small gs K same' later m hm in
+        let nt = named_late before o small gs K same' later n hn in
+        one_of before o T (g_t before o big small gb gs w base later l) m n mT nT (al m n mt nt ∙ fn m mt vm ∙ sym (asides m mt) ∙ am) (fm n nT vn ∙ asides n nt ∙ an)
 
     join : Home before o big gb K w later l v all cl p → Home before o small gs K same' later ls v all_small ct p → OneHome before big small later v p
     join (new h e) (new k f) = record { at = p; seated = seated; in_big = e; in_small = f; closed = ct }

@@ -1,13 +1,14 @@
 -- The home by a count of what hangs at a place, and the place where nothing hangs at the home.
-use Rattle.std.proofs.Common.{◌≡◌, ℕ, zero, suc, ◌+◌, ◌≤◌, Bool, true, false, ◌&&◌, List, [], ◌∷◌, reverse, length, Some, None, filter, Option, sym, refl, ap, ◌∙◌, subst, inl, inr, arith}
+use Rattle.std.proofs.Common.{◌≡◌, ℕ, zero, suc, ◌+◌, ◌≤◌, Bool, true, false, ◌&&◌, List, [], ◌∷◌, reverse, length, Some, None, filter, Option, sym, refl, ap, ◌∙◌, inl, inr, arith}
 use Rattle.std.specs.List.{AllByRecursion}
 use Rattle.std.proofs.lemmas.Bool.{cases_Bool, and_parts, and_from}
+use Rattle.std.proofs.lemmas.List.{nil_from_length}
 use Rattle.std.proofs.ByRecursion.{All-weaker}
 use Rattle.events.specs.declared.name.Name.{Name}
 use Rattle.events.specs.declared.character.Character.{Character}
 use Rattle.fugue.specs.Names.{Ordered, ◌∈◌}
 use Rattle.fugue.specs.Placements.{attached_by}
-use Rattle.fugue.specs.Tree.{Attachment, root, left_of, right_of, same_attachment, Node, Tree, children, sequence, only, ClosedPart, has_node, Grown}
+use Rattle.fugue.specs.Tree.{Attachment, left_of, same_attachment, Node, Tree, children, sequence, only, ClosedPart, has_node, Grown}
 use Rattle.fugue.proofs.Grown.{age_below, grown_only}
 use Rattle.fugue.proofs.Lists.{kept_member, member_kept}
 use Rattle.fugue.proofs.Names.{attachment_is, attachment_refl}
@@ -19,22 +20,17 @@ use Rattle.walk_theory.specs.Search.{until, climb, top_outside, top_precedes, to
 use Rattle.walk_theory.specs.Counts.{hung, all, home_by_count, where_free, Quickly}
 use Rattle.walk_theory.proofs.Tops.{found}
 use Rattle.walk_theory.proofs.Cuts.{leading_none, all_reverse}
-use Rattle.walk_theory.proofs.Search.{in_t, outside_is, finds, all_mid, named_behind, follow_is, home_right, home_left}
+use Rattle.walk_theory.proofs.Search.{not_left, first_child, in_t, outside_is, finds, all_mid, named_behind, follow_is, home_right, home_left}
 
 count_none : {X : Type 0} (p : X → Bool) (l : List X) → length (filter p l) ≡ 0 → (x : X) → x ∈ l → p x ≡ true → ⊥
-count_none p [] e x i h = elim i [ ]
-count_none p (y ∷ l) e x (inl f) h = let k : p y ≡ true = subst (λ z. p z ≡ true) f h in let e' = rw k at e in omega (arith, e')
-count_none p (y ∷ l) e x (inr i) h = elim (cases_Bool (p y)) [
-  | inl k ↦ let e' = rw k at e in omega (arith, e')
-  | inr k ↦ count_none p l (rw k at e) x i h
-]
+count_none p l e x i h = elim (rw (nil_from_length (filter p l) e) at (kept_member p l x h i)) [ ]
 
 count_some : {X : Type 0} (p : X → Bool) (l : List X) (k : ℕ) → length (filter p l) ≡ suc k → (x : X) × (x ∈ l) × (p x ≡ true)
-count_some p [] k e = absurd (omega arith)
-count_some p (y ∷ l) k e = elim (cases_Bool (p y)) [
-  | inl h ↦ (y, inl refl, h)
-  | inr h ↦ let r = count_some p l k (rw h at e) in (r.0, inr r.1, r.2)
-]
+count_some {X = X} p l k e = go (filter p l) e (member_kept p l)
+  where
+    go : (f : List X) → length f ≡ suc k → ((x : X) → x ∈ f → (x ∈ l) × (p x ≡ true)) → (x : X) × (x ∈ l) × (p x ≡ true)
+    go [] e m = absurd (omega arith)
+    go (y ∷ f) e m = let r = m y (inl refl) in (y, r.0, r.1)
 
 -- the character of a node decides nothing
 any_character : Character
@@ -59,7 +55,7 @@ module _ (before : Name → Name → Bool) (o : Ordered before) (t : Tree) (g : 
       let i = ((children_are before o (only v t) gv p).are r.0).1 (kept_member (λ n. v n.name) t r.0 a.0 (in_t before o t g r.0 r.1), attachment_is r.0.attachment p a.1) in
       absurd (rw ek at i)
   none_hung (n ∷ ks) ek zero ec fs =
-      let i = ((children_are before o (only v t) gv p).are n).0 (rw ek (inl refl)) in
+      let i = first_child before o (only v t) gv p n ks ek in
       let a = member_kept (λ m. v m.name) t n i.0 in
       absurd (count_none (λ m. v m.name && same_attachment m.attachment p) s ec n ((members before o t g n).1 a.0) (and_from _ _ a.1 (rw i.1 (attachment_refl p))))
   none_hung (n ∷ ks) ek (suc k) ec [] = refl
@@ -96,23 +92,13 @@ module _ (before : Name → Name → Bool) (o : Ordered before) (t : Tree) (g : 
   alone_by zero [] e h = up_none h
   alone_by (suc k) [] e h = up_none h
   alone_by zero (n ∷ ns) e h = elim (cases_Bool (same_attachment (climb d s n.attachment) p)) [
-    | inl c ↦ absurd (not_left p q (sym (rw c at e)))
+    | inl c ↦ absurd (not_left _ p q n.name (sym (rw c at e)))
     | inr c ↦ rw c (up_none h)
   ]
-    where
-      not_left : (p : Attachment) → Origin (λ y. has_node t y && v y) p → p ≡ left_of n.name → ⊥
-      not_left root h e = grind arith
-      not_left (left_of y) h e = h
-      not_left (right_of y) h e = grind arith
   alone_by (suc k) (n ∷ ns) e h = elim (cases_Bool (same_attachment (climb d s n.attachment) p)) [
     | inl c ↦ rw c (down_none n.name h)
-    | inr c ↦ absurd (not_left p q (rw c at e))
+    | inr c ↦ absurd (not_left _ p q n.name (rw c at e))
   ]
-    where
-      not_left : (p : Attachment) → Origin (λ y. has_node t y && v y) p → p ≡ left_of n.name → ⊥
-      not_left root h e = grind arith
-      not_left (left_of y) h e = h
-      not_left (right_of y) h e = grind arith
 
   pub quick : Quickly before d t v p x
   quick = record {

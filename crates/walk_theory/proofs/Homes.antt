@@ -1,5 +1,5 @@
 -- What a version gives for a left origin, in a tree that grows over a base.
-use Rattle.std.proofs.Common.{◌≡◌, Bool, true, false, not, ◌&&◌, ◌⊎◌, List, [], ◌∷◌, ◌++◌, None, sym, refl, ap, ◌∙◌, subst, ap₂, inl, inr}
+use Rattle.std.proofs.Common.{◌≡◌, Bool, true, false, not, ◌&&◌, ◌⊎◌, List, [], ◌∷◌, ◌++◌, None, filter, sym, refl, ap, ◌∙◌, subst, ap₂, inl, inr}
 use Rattle.std.proofs.lemmas.Bool.{both_ways, cases_Bool, or_right, and_parts, and_from}
 use Rattle.events.specs.declared.name.Name.{Name}
 use Rattle.fugue.proofs.Grown.{inside}
@@ -8,7 +8,7 @@ use Rattle.fugue.specs.Paths.{end, steps_to, steps, path, path_before}
 use Rattle.fugue.specs.Tree.{Attachment, root, left_of, right_of, same_attachment, Node, Tree, sequence, only, ClosedPart, has_node, Grown}
 use Rattle.fugue.proofs.Grown.{has_own, grown_only, has_only, node_of_lem}
 use Rattle.fugue.proofs.Lists.{kept_like, all_member, all_members, kept_member, member_kept}
-use Rattle.fugue.proofs.Names.{same_name, same_own, attachment_is, attachment_refl}
+use Rattle.fugue.proofs.Names.{attachment_is, attachment_refl}
 use Rattle.fugue.proofs.Nested.{sequence_part}
 use Rattle.fugue.proofs.Paths.{stepped, members}
 use Rattle.walk_theory.specs.Origins.{Origin}
@@ -16,7 +16,7 @@ use Rattle.walk_theory.specs.Tops.{top_at, beside_owner}
 use Rattle.walk_theory.specs.Bases.{home_in, attached_over, node_over, grown_over, OnLater, LaterNodes, node_names, Agrees}
 use Rattle.walk_theory.proofs.Tops.{found, beside as by_place}
 use Rattle.walk_theory.proofs.Search.{origin_like, top_kept, below_right, as_rooted}
-use Rattle.walk_theory.proofs.Over.{never, either, plain, led, home_put, home_beside, origin_by, in_behind, Spot, gap, out, named_late, named_base, named_cases, late_new, spot_of, grown_over_lem, base_none, base_bare, attached_same, beside_base, path_base, in_gap, beside}
+use Rattle.walk_theory.proofs.Over.{never, either, one_of, plain, led, home_put, home_beside, origin_by, in_behind, Spot, gap, out, named_late, named_base, named_cases, late_new, spot_of, grown_over_lem, base_none, base_bare, attached_same, beside_base, path_base, in_gap, beside}
 use Rattle.walk_theory.proofs.Bases.{Alike, alike_from, seated_more, in_over}
 
 own_path : (t : Tree) (x : Name) (q : Attachment) → steps t x ≡ steps_to (steps t) q x → path t x ≡ steps_to (steps t) q x ++ end ∷ []
@@ -151,9 +151,6 @@ module _ (before : Name → Name → Bool) (o : Ordered before) (b : Tree) (gb :
       let f : m.attachment ≡ right_of z = ap (attached_over before b) h.3 ∙ e in
       ap not (ap (path_before before (path X z)) (own_path X h.0.name (right_of z) (all_member _ X m (stepped X g_x) (in_over before o b gb kept sub later h.0 h.1) ∙ ap (λ r. steps_to (steps X) r h.0.name) f)) ∙ below_right before o X g_x h.0.name z)
 
-  no_yes : (x : Bool) → x ≡ false → x ≡ true → ⊥
-  no_yes x h k = both_ways x h k
-
   late_first : (p : Attachment) (sp : Spot before o b gb kept sub later p) → Held p → Origin (has_node X) p → (n : Name) → has_node X n ≡ true → v n ≡ true
       → ((c : Name) → has_node X c ≡ true → v c ≡ true → less c n ≡ beside_owner before X p c) → has_node later n ≡ true
   late_first p sp h q n k w f = elim (named_cases before o b gb kept sub later n k) [
@@ -164,21 +161,19 @@ module _ (before : Name → Name → Bool) (o : Ordered before) (b : Tree) (gb :
         let a = early p sp h n i ∙ sym (f n k w) ∙ never before o X g_x n in
         let d : x ≡ n → ⊥ = λ e. both_ways _ (late_new before o b gb kept sub later l x lx) (rw e i) in
         let c = either before o X g_x x n (named_late before o b gb kept sub later x lx) k d ∙ ap not a in
-        absurd (no_yes (less x n) (f x (named_late before o b gb kept sub later x lx) h.2 ∙ held_after p sp h q) c)
+        absurd (both_ways (less x n) (f x (named_late before o b gb kept sub later x lx) h.2 ∙ held_after p sp h q) c)
   ]
 
+  abbrev hangs : Attachment → Node → Bool
+  hangs p n = v n.name && same_attachment n.attachment p
+
   find_held : (p : Attachment) (older : List Node) → ((a : Node) × (a ∈ older) × (v a.name ≡ true) × (a.attachment ≡ p)) ⊎ ((a : Node) → a ∈ older → v a.name ≡ true → a.attachment ≡ p → ⊥)
-  find_held p [] = inr (λ a i. elim i [ ])
-  find_held p (z ∷ older) = elim (find_held p older) [
-    | inl r ↦ inl (r.0, inr r.1, r.2, r.3)
-    | inr r ↦ elim (cases_Bool (v z.name && same_attachment z.attachment p)) [
-      | inl e ↦ let k = and_parts (v z.name) (same_attachment z.attachment p) e in inl (z, inl refl, k.0, attachment_is z.attachment p k.1)
-      | inr e ↦ inr (λ a i. elim i [
-        | inl f ↦ λ w g. both_ways _ e (subst (λ n. (v n.name && same_attachment n.attachment p) ≡ true) f (and_from (v a.name) (same_attachment a.attachment p) w (rw g (attachment_refl p))))
-        | inr j ↦ r a j
-      ])
-    ]
-  ]
+  find_held p older = go (filter (hangs p) older) (member_kept (hangs p) older) (kept_member (hangs p) older)
+    where
+      go : (f : List Node) → ((n : Node) → n ∈ f → (n ∈ older) × (hangs p n ≡ true)) → ((n : Node) → hangs p n ≡ true → n ∈ older → n ∈ f)
+          → ((a : Node) × (a ∈ older) × (v a.name ≡ true) × (a.attachment ≡ p)) ⊎ ((a : Node) → a ∈ older → v a.name ≡ true → a.attachment ≡ p → ⊥)
+      go [] m k = inr (λ a i w e. elim (k a (and_from (v a.name) (same_attachment a.attachment p) w (rw e (attachment_refl p))) i) [ ])
+      go (a ∷ f) m k = let r = m a (inl refl) in let e = and_parts (v a.name) (same_attachment a.attachment p) r.1 in inl (a, r.0, e.0, attachment_is a.attachment p e.1)
 
   -- the home is the gap's, or the left of a later node
   pub data Home (p : Attachment) : Type 0 where
@@ -236,14 +231,10 @@ module _ (before : Name → Name → Bool) (o : Ordered before) (b : Tree) (gb :
           nh (held_from p sp r.0 r.1 (rw r.2 w) (r.3 ∙ ap (home_in before b) same-hole ∙ sym e))
 
       same_next : (n0 : Name) → has_node b n0 ≡ true → ((c : Name) → has_node b c ≡ true → path_before before (path b c) (path b n0) ≡ beside_owner before b p c) → Origin (has_node b) p → has_node b n ≡ true → n ≡ n0
-      same_next n0 h0 F0 q k = elim (cases_Bool (same n n0)) [
-        | inl e ↦ same_name n n0 e
-        | inr e ↦
-            let d : n ≡ n0 → ⊥ = λ w. both_ways _ e (rw w (same_own n0)) in
-            let a = FBase q n0 h0 ∙ sym (F0 n0 h0) ∙ never before o b gb n0 in
-            let c = ap₂ (path_before before) (path_base before o b gb kept sub later l n k) (path_base before o b gb kept sub later l n0 h0) ∙ F0 n k ∙ sym (FBase q n k) ∙ never before o X g_x n in
-            absurd (no_yes (less n n0) c (either before o X g_x n n0 n_x (named_base before o b gb kept sub later n0 h0) d ∙ ap not a))
-      ]
+      same_next n0 h0 F0 q k =
+          one_of before o X g_x n n0 n_x (named_base before o b gb kept sub later n0 h0)
+          (ap₂ (path_before before) (path_base before o b gb kept sub later l n k) (path_base before o b gb kept sub later l n0 h0) ∙ F0 n k ∙ sym (FBase q n k) ∙ never before o X g_x n)
+          (FBase q n0 h0 ∙ sym (F0 n0 h0) ∙ never before o b gb n0)
 
     home_held : Held p → Home p
     home_held h = elim (home_put before o XV g_xv p qv) [

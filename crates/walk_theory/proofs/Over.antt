@@ -1,5 +1,5 @@
 -- One tree that grows over a base.
-use Rattle.std.proofs.Common.{◌≡◌, ℕ, Bool, true, false, not, ◌⊎◌, List, [], ◌∷◌, ◌++◌, Some, None, Option, sym, refl, ap, ◌∙◌, subst, ap₂, inl, inr, arith}
+use Rattle.std.proofs.Common.{◌≡◌, Bool, true, false, not, ◌⊎◌, List, [], ◌∷◌, ◌++◌, Some, None, Option, sym, refl, ap, ◌∙◌, subst, ap₂, inl, inr, arith}
 use Rattle.std.specs.List.{AllByRecursion}
 use Rattle.std.proofs.lemmas.Bool.{both_ways, cases_Bool, or_right, or_cases}
 use Rattle.std.proofs.ByRecursion.{All-weaker}
@@ -13,7 +13,7 @@ use Rattle.fugue.specs.Placements.{after, attached_by}
 use Rattle.fugue.specs.Tree.{Attachment, root, left_of, right_of, same_attachment, Node, Tree, children, sequence, AttachedTo, ClosedPart, has_node, Grown, Children}
 use Rattle.fugue.proofs.Beside.{Starts}
 use Rattle.fugue.proofs.Grown.{has_own, attached_like, node_of_lem}
-use Rattle.fugue.proofs.Lists.{all_member, in_either, in_right, rises_right, rises_across}
+use Rattle.fugue.proofs.Lists.{all_member, in_either, rises_right, rises_across}
 use Rattle.fugue.proofs.Names.{same_name, same_own, attachment_refl}
 use Rattle.fugue.proofs.Paths.{sequence_has, steps_older, steps_own, path_irreflexive, path_transitive, path_total, members, one_path}
 use Rattle.fugue.proofs.Sequences.{children_are}
@@ -22,7 +22,7 @@ use Rattle.walk_theory.specs.Tops.{by_owner, top_at, beside_owner, comes_before}
 use Rattle.walk_theory.specs.Bases.{home_in, attached_over, node_over, grown_over, OnLater, LaterNodes}
 use Rattle.walk_theory.proofs.Gaps.{followed}
 use Rattle.walk_theory.proofs.Tops.{top_older, top_own, sides}
-use Rattle.walk_theory.proofs.Search.{cut_at, front_is, as_rooted, rises, in_t, no_top, beside_past, origin_like}
+use Rattle.walk_theory.proofs.Search.{cut_at, front_is, as_rooted, first_child, in_behind as node_behind, rises, no_top, beside_past, origin_like}
 
 -- an order of node_names by their paths in a tree
 module _ (before : Name → Name → Bool) (o : Ordered before) (t : Tree) (g : Grown t) where
@@ -47,6 +47,13 @@ module _ (before : Name → Name → Bool) (o : Ordered before) (t : Tree) (g : 
     ]
   ]
 
+  -- of two nodes one is before the other
+  pub one_of : (y z : Name) → has_node t y ≡ true → has_node t z ≡ true → less y z ≡ false → less z y ≡ false → y ≡ z
+  one_of y z h k a c = elim (cases_Bool (same y z)) [
+    | inl e ↦ same_name y z e
+    | inr e ↦ absurd (both_ways false refl (sym a ∙ either y z h k (λ w. both_ways _ e (rw w (same_own z))) ∙ ap not c))
+  ]
+
 module _ (before : Name → Name → Bool) (o : Ordered before) (b : Tree) (gb : Grown b) where
   abbrev pub s : List Node
   s = sequence before b
@@ -59,19 +66,18 @@ module _ (before : Name → Name → Bool) (o : Ordered before) (b : Tree) (gb :
   put_by : (q : Attachment) → Origin (has_node b) q → (ks f : List Node) → children before b q ≡ ks → behind q s ≡ f → Put q (attached_by ks f q)
   put_by q h [] f ek ef = plain refl (λ m i e. rw ek at (((children_are before o b gb q).are m).1 (i, e)))
   put_by q h (k ∷ ks) f ek ef =
-      let i = ((children_are before o b gb q).are k).0 (rw ek (inl refl)) in
+      let i = first_child before o b gb q k ks ek in
       go f ef (followed before o b gb q h k i.0 i.1) i.0 i.1
     where
       go : (f : List Node) → behind q s ≡ f → Starts before o b (behind q s) → k ∈ b → k.attachment ≡ q → Put q (attached_by (k ∷ ks) f q)
-      go [] e a i j = absurd (let z : ◌≡◌ {A = ℕ} 0 1 = cc (a.2, e) in omega arith)
+      go [] e a i j = absurd (grind (arith, a.2, e))
       go (n ∷ ns) e a i j = let f : a.0 ≡ n = cc (a.2, e) in led n ns e refl (subst (λ m. Children before b (left_of m.name) []) f a.3) k i j
 
   pub home_put : (q : Attachment) → Origin (has_node b) q → Put q (home_in before b q)
   home_put q h = put_by q h (children before b q) (behind q s) refl refl
 
   pub in_behind : (q : Attachment) → Origin (has_node b) q → (n : Node) → n ∈ behind q s → has_node b n.name ≡ true
-  in_behind q h n i =
-      all_member _ b n (has_own b) (in_t before o b gb n (rw (← (front_is q s (has_node b) h)) (in_right (front q s) (behind q s) n i)))
+  in_behind q h n i = all_member _ b n (has_own b) (node_behind before o b gb q h n i)
 
   -- at the place that the base gives stands nothing of the base
   pub home_bare : (q : Attachment) → Origin (has_node b) q → (m : Node) → m ∈ b → m.attachment ≡ home_in before b q → ⊥
@@ -135,20 +141,11 @@ module _ (before : Name → Name → Bool) (o : Ordered before) (b : Tree) (gb :
   origin_by (left_of y) q h k f = elim h [ ]
   origin_by (right_of y) root h k f = absurd (both_ways false refl (sym (f y h) ∙ ap not (never before o b gb y)))
   origin_by (right_of y) (left_of z) h k f = elim k [ ]
-  origin_by (right_of y) (right_of z) h k f = elim (cases_Bool (same y z)) [
-    | inl e ↦ ap right_of (same_name y z e)
-    | inr e ↦
-        let d : y ≡ z → ⊥ = λ w. both_ways _ e (rw w (same_own z)) in
-        let a = never before o b gb y in
-        let c = never before o b gb z in
-        let i = f y h in
-        let j = f z k in
-        let w = either before o b gb y z h k d in
-        absurd (clash (L y y) (L z z) (L y z) (L z y) a c i j w)
-  ]
+  origin_by (right_of y) (right_of z) h k f =
+      ap right_of (one_of before o b gb y z h k (not_same _ _ (f z k) ∙ never before o b gb z) (not_same _ _ (sym (f y h)) ∙ never before o b gb y))
     where
-      clash : (yy zz yz zy : Bool) → yy ≡ false → zz ≡ false → not yy ≡ not zy → not yz ≡ not zz → yz ≡ not zy → ⊥
-      clash yy zz yz zy a c i j w = grind arith
+      not_same : (x y : Bool) → not x ≡ not y → x ≡ y
+      not_same x y e = grind arith
 
   pub stead_same : (p q : Attachment) → Origin (has_node b) p → Origin (has_node b) q → home_in before b p ≡ home_in before b q → p ≡ q
   stead_same p q h k e = origin_by p q h k (λ c n. sym (home_beside p h c n) ∙ ap (λ z. beside_owner before b z c) e ∙ home_beside q k c n)
@@ -185,10 +182,8 @@ module _ (before : Name → Name → Bool) (o : Ordered before) (b : Tree) (gb :
     named_cases (a ∷ later) y h = let ih = named_cases later y in grind (arith, ih)
 
     pub named_none : (later : List Node) (y : Name) → has_node later y ≡ false → has_node b y ≡ false → has_node (G later) y ≡ false
-    named_none later y h k = elim (cases_Bool (has_node (G later) y)) [
-      | inl e ↦ elim (named_cases later y e) [ inl f ↦ absurd (both_ways _ h f) | inr f ↦ absurd (both_ways _ k f) ]
-      | inr e ↦ e
-    ]
+    named_none [] y h k = k
+    named_none (a ∷ later) y h k = let ih = named_none later y in grind (arith, ih, h, k)
 
     pub late_new : (later : List Node) → LaterNodes (has_node b) kept later → (y : Name) → has_node later y ≡ true → has_node b y ≡ false
     late_new [] l y h = absurd (both_ways false refl h)

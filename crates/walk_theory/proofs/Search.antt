@@ -36,7 +36,7 @@ from p (n ∷ ns) = cond (p n.name) (n ∷ ns) (from p ns)
 until_from : (p : Name → Bool) (l : List Node) → until p l ++ from p l ≡ l
 unfolding from
 until_from p [] = refl
-until_from p (n ∷ ns) = let ih = until_from p ns in elim (cases_Bool (p n.name)) [ inl e ↦ rw e | inr e ↦ rw e (ap (λ z. n ∷ z) ih) ]
+until_from p (n ∷ ns) = let ih = until_from p ns in grind (arith, ih)
 
 from_passes : (p : Name → Bool) (l : List Node) (n : Node) (ns : List Node) → from p l ≡ n ∷ ns → p n.name ≡ true
 unfolding from
@@ -54,14 +54,6 @@ from_first p (m ∷ l) n ns h = elim (cases_Bool (p m.name)) [
   | inr e ↦ rw e (from_first p l n ns (rw e at h))
 ]
 
-from_none : (p : Name → Bool) (l : List Node) → only p l ≡ [] → from p l ≡ []
-unfolding from
-from_none p [] h = refl
-from_none p (m ∷ l) h = elim (cases_Bool (p m.name)) [
-  | inl e ↦ absurd (let k = rw e at h in let z : ◌≡◌ {A = ℕ} 0 1 = cc (k) in omega arith)
-  | inr e ↦ rw e (from_none p l (rw e at h))
-]
-
 pub past_only : (v : Name → Bool) (y : Name) → v y ≡ true → (s : List Node) → after y (only v s) ≡ only v (after y s)
 past_only v y h [] = refl
 past_only v y h (n ∷ s) = let ih = past_only v y h s in let i = same_name n.name y in grind (arith, ih, i, h)
@@ -77,7 +69,7 @@ cut_at y (n ∷ s) h = elim (cases_Bool (same n.name y)) [
 
 pub upto_is : (y : Name) (s : List Node) → up_to y s ++ after y s ≡ s
 upto_is y [] = refl
-upto_is y (n ∷ s) = let ih = upto_is y s in elim (cases_Bool (same n.name y)) [ inl e ↦ rw e | inr e ↦ rw e (ap (λ z. n ∷ z) ih) ]
+upto_is y (n ∷ s) = let ih = upto_is y s in grind (arith, ih)
 
 pub front_is : (p : Attachment) (s : List Node) → (v : Name → Bool) → Origin v p → front p s ++ behind p s ≡ s
 front_is root s v h = refl
@@ -108,14 +100,25 @@ origin_like v w f root h = tt
 origin_like v w f (left_of y) h = elim h [ ]
 origin_like v w f (right_of y) h = f y h
 
+pub not_left : (v : Name → Bool) (p : Attachment) → Origin v p → (y : Name) → p ≡ left_of y → ⊥
+not_left v root h y e = grind arith
+not_left v (left_of w) h y e = h
+not_left v (right_of w) h y e = grind arith
+
 pub as_rooted : (v : Name → Bool) (p : Attachment) → Origin v p → AttachedTo v p
 as_rooted v root h = tt
 as_rooted v (left_of y) h = elim h [ ]
 as_rooted v (right_of y) h = h
 
+pub first_child : (before : Name → Name → Bool) → Ordered before → (t : Tree) → Grown t → (q : Attachment) (k : Node) (ks : List Node) → children before t q ≡ k ∷ ks → (k ∈ t) × (k.attachment ≡ q)
+first_child before o t g q k ks e = ((children_are before o t g q).are k).0 (rw e (inl refl))
+
 module _ (before : Name → Name → Bool) (o : Ordered before) (t : Tree) (g : Grown t) where
   abbrev pub s : List Node
   s = sequence before t
+
+  pub in_behind : (q : Attachment) → Origin (has_node t) q → (n : Node) → n ∈ behind q s → n ∈ t
+  in_behind q h n i = (members before o t g n).0 (rw (← (front_is q s (has_node t) h)) (in_right (front q s) (behind q s) n i))
 
   abbrev Before : Node → Node → Type 0
   Before m n = path_before before (path t m.name) (path t n.name) ≡ true
@@ -259,6 +262,9 @@ module _ (before : Name → Name → Bool) (o : Ordered before) (t : Tree) (g : 
 
       all_rest : (P : Node → Type 0) → AllByRecursion P (behind p s) → AllByRecursion P rest
       all_rest P a = all_right P mid rest (rw (← (until_from v (behind p s))) at a)
+
+      first_in : (n : Node) (r : List Node) → rest ≡ n ∷ r → n ∈ t
+      first_in n r e = in_behind p qt n (rw (← (until_from v (behind p s))) (in_right mid rest n (rw e (inl refl))))
 
       pub named_behind : AllByRecursion (λ n. has_node t n.name ≡ true) (behind p s)
       named_behind = all_behind _ all_named
@@ -448,38 +454,31 @@ module _ (before : Name → Name → Bool) (o : Ordered before) (t : Tree) (g : 
         told : (ks f : List Node) → children before tv p ≡ ks → only v (behind p s) ≡ f → Told ks f
         told [] [] ek ef = (refl, at_right ek)
         told (k ∷ ks) [] ek ef =
-            let i = ((children_are before o tv gv p).are k).0 (rw ek (inl refl)) in
+            let i = first_child before o tv gv p k ks ek in
             let b = begun_at p origin_tv k i.0 i.1 in
-            absurd (let z : ◌≡◌ {A = ℕ} 0 1 = cc (b.2, follow_is, ef) in omega arith)
+            absurd (grind (arith, b.2, follow_is, ef))
         told [] (n ∷ ns) ek ef =
             let fr = from_first v (behind p s) n ns ef in
             let no : same_attachment (climb d s n.attachment) p ≡ false
             = elim (cases_Bool (same_attachment (climb d s n.attachment) p)) [
               | inl z ↦
-                  let m = in_t n (rw (← (front_is p s (has_node t) qt)) (in_right (front p s) (behind p s) n (rw (← (until_from v (behind p s))) (in_right mid rest n (rw fr.1 (inl refl)))))) in
-                  let a = climb_held p d n n.attachment m fr.2 refl (attachment_is (climb d s n.attachment) p z) in
+                  let a = climb_held p d n n.attachment (first_in n fr.0 fr.1) fr.2 refl (attachment_is (climb d s n.attachment) p z) in
                   absurd (where_free ek a.0 a.1 a.2 a.3)
               | inr z ↦ z
             ] in
             rw no (refl, at_right ek)
         told (k ∷ ks) (n ∷ ns) ek ef =
-            let i = ((children_are before o tv gv p).are k).0 (rw ek (inl refl)) in
+            let i = first_child before o tv gv p k ks ek in
             let b = begun_at p origin_tv k i.0 i.1 in
             let a = started k i.0 i.1 in
             let fr = from_first v (behind p s) n ns ef in
             let fb : b.0 ≡ n = cc (b.2, follow_is, ef) in
             let fa : a.0 ≡ n = cc (a.2, follow_is, ef) in
-            let m = in_t n (rw (← (front_is p s (has_node t) qt)) (in_right (front p s) (behind p s) n (rw (← (until_from v (behind p s))) (in_right mid rest n (rw fr.1 (inl refl)))))) in
-            let good = all_member _ t n (aged t g) m in
+            let good = all_member _ t n (aged t g) (first_in n fr.0 fr.1) in
             let yes' : climb d s n.attachment ≡ p
             = climb_is p qv d n.attachment (climbs_more tv t (λ j w. (in_tv j w).0) p n.attachment (subst (λ j. Climbs tv p j.attachment) fb b.3))
             (under_more (age t) n.attachment _ d good.1 (omega (arith, good.0))) in
             rw (yes', attachment_refl p) (refl, at_left n fr.0 fr.1 (subst (λ j. Children before tv (left_of j.name) []) fa a.3))
-
-        no_left : (q : Attachment) → Origin v q → (y : Name) → q ≡ left_of y → ⊥
-        no_left root h y e = grind arith
-        no_left (left_of w) h y e = h
-        no_left (right_of w) h y e = grind arith
 
         -- the home says which way the answer turns along the run
         pub home_right : home d s p (only v (behind p s)) ≡ p → Falls (λ n. top_precedes before x (top_outside d s v p n.name)) mid
@@ -488,19 +487,19 @@ module _ (before : Name → Name → Bool) (o : Ordered before) (t : Tree) (g : 
             go : (ks : List Node) → children before tv p ≡ ks → Falls (λ n. top_precedes before x (top_outside d s v p n.name)) mid
             go [] z = right_turns (where_free z)
             go (k ∷ ks) z =
-                let i = ((children_are before o tv gv p).are k).0 (rw z (inl refl)) in
+                let i = first_child before o tv gv p k ks z in
                 let b = begun_at p origin_tv k i.0 i.1 in
                 let r = (told (k ∷ ks) (b.0 ∷ b.1) z (sym follow_is ∙ b.2)).0 in
-                absurd (no_left p qv b.0.name (sym e ∙ ap (home d s p) (sym follow_is ∙ b.2) ∙ r))
+                absurd (not_left v p qv b.0.name (sym e ∙ ap (home d s p) (sym follow_is ∙ b.2) ∙ r))
 
         pub home_left : (n : Node) (ns : List Node) → only v (behind p s) ≡ n ∷ ns → home d s p (only v (behind p s)) ≡ left_of n.name
             → Falls (λ m. not (top_follows before x (top_outside d s v (left_of n.name) m.name))) mid
         home_left n ns ef e = go (children before tv p) refl
           where
             go : (ks : List Node) → children before tv p ≡ ks → Falls (λ m. not (top_follows before x (top_outside d s v (left_of n.name) m.name))) mid
-            go [] z = absurd (no_left p qv n.name (sym (told [] (only v (behind p s)) z refl).0 ∙ e))
+            go [] z = absurd (not_left v p qv n.name (sym (told [] (only v (behind p s)) z refl).0 ∙ e))
             go (k ∷ ks) z =
-                let i = ((children_are before o tv gv p).are k).0 (rw z (inl refl)) in
+                let i = first_child before o tv gv p k ks z in
                 let a = started k i.0 i.1 in
                 let fa : a.0 ≡ n = cc (a.2, follow_is, ef) in
                 let fr = from_first v (behind p s) n ns ef in
