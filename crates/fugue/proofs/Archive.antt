@@ -1,6 +1,8 @@
 -- Archive order exists, is one, and is an order in which the events could have come.
 use Rattle.std.proofs.Common.{◌≡◌, ℕ, zero, suc, ◌<◌, ◌≤◌, Bool, true, false, not, ◌&&◌, ◌⊎◌, List, [], ◌∷◌, length, filter, sym, refl, ap, ◌∙◌, subst, ap₂, inl, inr, arith}
-use Rattle.std.specs.List.{AllZip, AllByRecursion}
+use Rattle.std.specs.List.{AllZip, AllByRecursion, each_same, list_all}
+use Rattle.std.proofs.lemmas.List.Elements.{All-from_recursion, recursion_from_All}
+use Rattle.std.proofs.lemmas.List.Sums.{AllPass-from_list_all, list_all-from_AllPass}
 use Rattle.std.proofs.lemmas.Bool.{both_ways, cases_Bool, and_parts, and_from, or_left, not-true}
 use Rattle.std.proofs.ByRecursion.{All-weaker}
 use Rattle.events.specs.declared.name.Name.{Name}
@@ -80,12 +82,6 @@ by_names R a b h (e ∷ es) (f ∷ fs) i j q =
     let y : names es ≡ names fs = cc in
     (h e f i.0 j.0 x, by_names R a b h es fs i.1 j.1 y)
 
-each_equal : (es fs : List NamedEvent) → AllZip (λ d e. d ≡ e) es fs → es ≡ fs
-each_equal [] [] h = refl
-each_equal [] (f ∷ fs) h = absurd h
-each_equal (e ∷ es) [] h = absurd h
-each_equal (e ∷ es) (f ∷ fs) h = ap₂ ◌∷◌ h.0 (each_equal es fs h.1)
-
 module _ (before : Name → Name → Bool) (o : Ordered before) where
   pub same_archive : (a b : NewestFirst) → Distinct b → SameEvents a b → (es fs : List NamedEvent) → ArchiveOrder before a es → ArchiveOrder before b fs → AllZip SameEvent es fs
   same_archive a b ub s es fs v w =
@@ -96,39 +92,25 @@ module _ (before : Name → Name → Bool) (o : Ordered before) where
   pub one_archive : (log : NewestFirst) → Distinct log → (es fs : List NamedEvent) → ArchiveOrder before log es → ArchiveOrder before log fs → es ≡ fs
   one_archive log u es fs v w =
       let own : Within log log = λ d i. (d, i, same_event before d) in
-      each_equal es fs (by_names (λ d e. d ≡ e) log log (λ d e i j q. one_event log u d e i j q) es fs (written_held before log [] es v) (written_held before log [] fs w)
-      (same_names before o log log ((own, own)) [] es fs v w))
+      each_same fs es (by_names (λ d e. e ≡ d) log log (λ d e i j q. one_event log u e d j i (sym q)) fs es (written_held before log [] fs w) (written_held before log [] es v)
+      (same_names before o log log (own, own) [] fs es w v))
 
 -- there is a next event as long as one is unwritten
 
-all_has : List Name → List Name → Bool
-all_has written [] = true
-all_has written (p ∷ ps) = has written p && all_has written ps
-
-all_has_lem : (written ps : List Name) → all_has written ps ≡ true → AllByRecursion (λ p. has written p ≡ true) ps
-unfolding all_has
-all_has_lem written [] h = tt
-all_has_lem written (p ∷ ps) h = let r = and_parts (has written p) (all_has written ps) h in (r.0, all_has_lem written ps r.1)
-
-has_all : (written ps : List Name) → AllByRecursion (λ p. has written p ≡ true) ps → all_has written ps ≡ true
-unfolding all_has
-has_all written [] h = refl
-has_all written (p ∷ ps) h = and_from _ _ h.0 (has_all written ps h.1)
-
 is_ready : List Name → NamedEvent → Bool
-is_ready written e = not (has written e.name) && all_has written e.parents
+is_ready written e = not (has written e.name) && list_all (has written) e.parents
 
 module _ (written : List Name) (log : NewestFirst) where
   ready : (e : NamedEvent) → e ∈ filter (is_ready written) log → Ready written log e
   unfolding is_ready
   ready e i =
       let r = member_kept (is_ready written) log e i in
-      let q = and_parts (not (has written e.name)) (all_has written e.parents) r.1 in
-      record { held = r.0; unwritten = not-true (has written e.name) q.0; after = all_has_lem written e.parents q.1 }
+      let q = and_parts (not (has written e.name)) (list_all (has written) e.parents) r.1 in
+      record { held = r.0; unwritten = not-true (has written e.name) q.0; after = recursion_from_All _ e.parents (AllPass-from_list_all (has written) e.parents q.1) }
 
   from_ready : (e : NamedEvent) → Ready written log e → e ∈ filter (is_ready written) log
   unfolding is_ready
-  from_ready e r = kept_member (is_ready written) log e (and_from _ _ (ap not r.unwritten) (has_all written e.parents r.after)) r.held
+  from_ready e r = kept_member (is_ready written) log e (and_from _ _ (ap not r.unwritten) (list_all-from_AllPass (has written) e.parents (All-from_recursion _ e.parents r.after))) r.held
 
 -- the oldest unwritten event is ready
 some_ready : (log : NewestFirst) → ParentsHeld log → (written : List Name) → AllByRecursion (λ e. has written e.name ≡ true) log ⊎ ((e : NamedEvent) × Ready written log e)

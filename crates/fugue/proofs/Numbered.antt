@@ -10,7 +10,7 @@ use Rattle.std.proofs.lemmas.Option.{slice_get-map}
 use Rattle.events.specs.declared.name.Name.{Name}
 use Rattle.events.specs.Parts.{NamedEvent, StoredEvent, SameEvent}
 use Rattle.fugue.specs.Names.{◌∈◌, Rising, same, has, Ordered}
-use Rattle.fugue.proofs.Lists.{all_member, all_members, nth_in, kept_member, member_kept, kept_like, rises_kept, has_member, member_has}
+use Rattle.fugue.proofs.Lists.{all_member, all_members, nth_in, kept_member, member_kept, kept_like, kept_nothing, rises_kept, has_member, member_has}
 use Rattle.fugue.specs.Logs.{NewestFirst, names, Distinct, name_at, named_in, log_of, numbers_from, numbered, Within, SameEvents}
 use Rattle.fugue.specs.Archive.{Admits, Admissible, WrittenFrom, ArchiveOrder}
 use Rattle.fugue.proofs.Names.{same_name, same_own, same_not, has_in, in_has}
@@ -160,11 +160,7 @@ module _ (xs : List Name) where
       on false h = h
 
   kept_few : (ps ys : List Name) → Apart ys → length (filter (has ps) ys) ≤ length ps
-  kept_few [] ys a = let z : filter (has []) ys ≡ [] = none_kept ys in rw z (omega arith)
-    where
-      none_kept : (ys : List Name) → filter (has []) ys ≡ []
-      none_kept [] = refl
-      none_kept (y ∷ ys) = none_kept ys
+  kept_few [] ys a = rw (kept_nothing (has []) ys (all_members _ ys (λ _ _. refl))) (omega arith)
   kept_few (p ∷ ps) ys a = let ih = kept_few ps ys a in let l = kept_one p ps ys a in omega (arith, ih, l)
 
   -- a log with its events' parents reordered
