@@ -58,6 +58,10 @@ module _ {X : Type 0} where
     leading_stop [] bs h = leading_none bs h
     leading_stop (a ∷ l) bs h = let ih = leading_stop l bs h in rw ih
 
+    -- the test passes up to the cut
+    leading_cut : (ls bs : List X) → AllByRecursion (λ n. B n ≡ true) ls → AllByRecursion (λ n. B n ≡ false) bs → prefix_len B (ls ++ bs) ≡ length ls
+    leading_cut ls bs h k = let a = leading_front ls bs h in let z = leading_none bs k in omega (arith, a, z)
+
     kept_parts : (ls bs : List X) → AllByRecursion (λ n. B n ≡ true) ls → AllByRecursion (λ n. B n ≡ false) bs → filter B (ls ++ bs) ≡ ls
     kept_parts ls bs h k = filter-append B ls bs ∙ ap₂ ◌++◌ (kept_whole B ls h) (kept_nothing B bs k) ∙ append-nil ls
 
@@ -70,26 +74,19 @@ module _ {X : Type 0} where
     pub kept_take : (l : List X) → Falls l → (filter B l ≡ take (prefix_len B l) l) × (filter (λ n. not (B n)) l ≡ drop (prefix_len B l) l)
     kept_take l h =
         let r = parted l h in
-        let k : prefix_len B (r.low ++ r.high) ≡ length r.low = leading_stop r.low r.high r.highs ∙ full r.low r.lows in
+        let k = leading_cut r.low r.high r.lows r.highs in
         rw (r.is, k) (
           kept_parts r.low r.high r.lows r.highs ∙ sym (take_at r.low r.high (length r.low) refl),
           kept_rest r.low r.high r.lows r.highs ∙ sym (drop_at r.low r.high (length r.low) refl),
         )
-      where
-        full : (ls : List X) → AllByRecursion (λ n. B n ≡ true) ls → prefix_len B ls ≡ length ls
-        full [] h = refl
-        full (a ∷ ls) h = let ih = full ls h.1 in rw h.0 (omega (arith, ih))
 
   pub leading_like : (B K : X → Bool) (l : List X) → AllByRecursion (λ n. B n ≡ K n) l → prefix_len B l ≡ prefix_len K l
   leading_like B K [] h = refl
   leading_like B K (n ∷ l) h = let ih = leading_like B K l h.1 in rw (h.0, ih)
 
-  falls_one : (B K : X → Bool) (a : X) (l : List X) → B a ≡ K a → AllByRecursion (λ n. B n ≡ K n) l → AllByRecursion (λ n. B n ≡ true → B a ≡ true) l → AllByRecursion (λ n. K n ≡ true → K a ≡ true) l
-  falls_one B K a l e h f = All-weaker _ _ (λ n k t. sym e ∙ k.1 (k.0 ∙ t)) l (all_both _ _ l h f)
-
   pub falls_like : (B K : X → Bool) (l : List X) → AllByRecursion (λ n. B n ≡ K n) l → Falls B l → Falls K l
   falls_like B K [] h f = tt
-  falls_like B K (a ∷ l) h f = (falls_one B K a l h.0 h.1 f.0, falls_like B K l h.1 f.1)
+  falls_like B K (a ∷ l) h f = (All-weaker _ _ (λ n k t. sym h.0 ∙ k.1 (k.0 ∙ t)) l (all_both _ _ l h.1 f.0), falls_like B K l h.1 f.1)
 
   pub all_reverse : (P : X → Type 0) (l : List X) → AllByRecursion P l → AllByRecursion P (reverse l)
   all_reverse P [] h = tt
@@ -102,10 +99,8 @@ module _ {X : Type 0} where
       let a : AllByRecursion (λ n. not (B n) ≡ K n) (r.low ++ r.high) = rw r.is at k in
       let lo : AllByRecursion (λ n. K n ≡ false) r.low = All-weaker _ _ (λ n e. sym e.1 ∙ rw e.0) r.low (all_both _ _ r.low r.lows (all_left _ r.low r.high a)) in
       let hi : AllByRecursion (λ n. K n ≡ true) r.high = All-weaker _ _ (λ n e. sym e.1 ∙ rw e.0) r.high (all_both _ _ r.high r.highs (all_right _ r.low r.high a)) in
-      let e1 : suffix_len K (r.low ++ r.high) ≡ length r.high + 0
+      let e1 : suffix_len K (r.low ++ r.high) ≡ length r.high
       = ap (prefix_len K) (reverse-append r.low r.high)
-      ∙ leading_front K (reverse r.high) (reverse r.low) (all_reverse _ r.high hi)
-      ∙ ap₂ ◌+◌ (length-reverse r.high) (leading_none K (reverse r.low) (all_reverse _ r.low lo)) in
-      let e2 : prefix_len B (r.low ++ r.high) ≡ length r.low + 0
-      = leading_front B r.low r.high r.lows ∙ ap (λ z. length r.low + z) (leading_none B r.high r.highs) in
-      rw (r.is, e1, e2, length-append r.low r.high) (omega arith)
+      ∙ leading_cut K (reverse r.high) (reverse r.low) (all_reverse _ r.high hi) (all_reverse _ r.low lo)
+      ∙ length-reverse r.high in
+      rw (r.is, e1, leading_cut B r.low r.high r.lows r.highs, length-append r.low r.high) (omega arith)

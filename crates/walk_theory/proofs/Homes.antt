@@ -93,7 +93,7 @@ module _ (before : Name → Name → Bool) (o : Ordered before) (b : Tree) (gb :
 
   seated_in : (older : List Node) → LaterNodes (has_node b) kept older → (a : Node) → a ∈ older → OnLater kept (has_node older) a.attachment
   seated_in [] u a i = elim i [ ]
-  seated_in (z ∷ older) u a (inl e) = subst (λ n. OnLater kept (has_node (z ∷ older)) n.attachment) (sym e) (seated_more kept (has_node older) (has_node (z ∷ older)) (λ y. or_right (same z.name y) (has_node older y)) z.attachment u.2)
+  seated_in (z ∷ older) u a (inl e) = rw e (seated_more kept (has_node older) (has_node (z ∷ older)) (λ y. or_right (same z.name y) (has_node older y)) z.attachment u.2)
   seated_in (z ∷ older) u a (inr i) = seated_more kept (has_node older) (has_node (z ∷ older)) (λ y. or_right (same z.name y) (has_node older y)) a.attachment (seated_in older u.3 a i)
 
   from_late : (older : List Node) (m : Node) → m ∈ grown_over before b older → (m ∈ b) ⊎ ((a : Node) × (a ∈ older) × (m ≡ node_over before b a))
