@@ -36,26 +36,21 @@ module _ (before : Name → Name → Bool) (o : Ordered before) where
         d.2,
       )
 
+  -- what is ready in one log is not before what is next in another that holds its events
+  not_earlier : (a b : NewestFirst) → Within a b → (written : List Name) (d e : NamedEvent) → Ready written a d → Next before written b e → before d.name e.name ≡ true → d.name ≡ e.name
+  not_earlier a b w written d e k n h =
+      let r = ready_forth a b w written d k in
+      elim (cases_Bool (same d.name e.name)) [
+        | inl q ↦ same_name d.name e.name q
+        | inr q ↦ absurd (both_ways _ (o.irreflexive d.name) (o.transitive d.name e.name d.name h
+            (subst (λ z. before e.name z ≡ true) (sym r.2.name) (n.first r.0 r.1 (λ z. both_ways _ q (rw (r.2.name ∙ z) (same_own e.name)))))))
+      ]
+
   -- the one that comes first comes first in both
   first_same : (a b : NewestFirst) → SameEvents a b → (written : List Name) (d e : NamedEvent) → Next before written a d → Next before written b e → d.name ≡ e.name
   first_same a b s written d e m n = elim (order_cases before o d.name e.name) [
-    | inl h ↦
-        let r = ready_forth a b s.0 written d m.ready in
-        elim (cases_Bool (same d.name e.name)) [
-          | inl q ↦ same_name d.name e.name q
-          | inr q ↦ absurd (both_ways _ (o.irreflexive d.name) (o.transitive d.name e.name d.name h
-              (subst (λ z. before e.name z ≡ true) (sym r.2.name) (n.first r.0 r.1 (λ z. both_ways _ q (rw (r.2.name ∙ z) (same_own e.name)))))))
-        ]
-    | inr h ↦ elim h [
-      | inl q ↦ q
-      | inr q ↦
-          let r = ready_forth b a s.1 written e n.ready in
-          elim (cases_Bool (same e.name d.name)) [
-            | inl z ↦ sym (same_name e.name d.name z)
-            | inr z ↦ absurd (both_ways _ (o.irreflexive e.name) (o.transitive e.name d.name e.name q
-                (subst (λ y. before d.name y ≡ true) (sym r.2.name) (m.first r.0 r.1 (λ y. both_ways _ z (rw (r.2.name ∙ y) (same_own d.name)))))))
-          ]
-    ]
+    | inl h ↦ not_earlier a b s.0 written d e m.ready n h
+    | inr h ↦ elim h [ inl q ↦ q | inr q ↦ sym (not_earlier b a s.1 written e d n.ready m q) ]
   ]
 
   all_written : (a b : NewestFirst) → Within b a → (written : List Name) → AllByRecursion (λ e. has written e.name ≡ true) a → (e : NamedEvent) → Ready written b e → ⊥

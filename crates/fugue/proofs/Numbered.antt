@@ -143,21 +143,9 @@ module _ (xs : List Name) where
     | inl q ↦
         let like = kept_like (has (p ∷ ps)) (has ps) ys
         (All-weaker (λ z. y ≡ z → ⊥) (λ z. has (p ∷ ps) z ≡ has ps z) (λ z n. rw (same_not p z (λ e. n (sym (same_name p y q) ∙ e)))) ys a.0) in
-        rw (q, like) (over (has ps y))
-    | inr q ↦ let ih = kept_one p ps ys a.1 in rw q (on (has ps y) ih)
+        grind (arith, q, like)
+    | inr q ↦ let ih = kept_one p ps ys a.1 in grind (arith, q, ih)
   ]
-    where
-      ns : List Name
-      ns = filter (has ps) ys
-
-      over : (b : Bool) → suc (length ns) ≤ suc (length (cond b (y ∷ ns) ns))
-      over true = omega arith
-      over false = omega arith
-
-      on : (b : Bool) → length (filter (has (p ∷ ps)) ys) ≤ suc (length ns)
-          → length (cond b (y ∷ filter (has (p ∷ ps)) ys) (filter (has (p ∷ ps)) ys)) ≤ suc (length (cond b (y ∷ ns) ns))
-      on true h = omega arith
-      on false h = h
 
   kept_few : (ps ys : List Name) → Apart ys → length (filter (has ps) ys) ≤ length ps
   kept_few [] ys a = rw (kept_nothing (has []) ys (all_members _ ys (λ _ _. refl))) (omega arith)

@@ -2,7 +2,7 @@
 use Rattle.std.proofs.Common.{◌≡◌, Bool, true, false, cond, not, List, [], ◌∷◌, map, Some, None, Option, sym, refl, ap, ◌∙◌, subst, ap₂, inl, inr}
 use Rattle.std.specs.List.{AllByRecursion}
 use Rattle.std.proofs.lemmas.Bool.{both_ways, cases_Bool, or_cases, or_left, or_right}
-use Rattle.std.proofs.ByRecursion.{All-weaker}
+use Rattle.std.proofs.ByRecursion.{All-weaker, All-map}
 use Rattle.std.proofs.lemmas.Bool.{false_from_ne_true}
 use Rattle.events.specs.declared.name.Name.{Name}
 use Rattle.fugue.specs.Names.{same, Ordered, ◌∈◌, Rising}
@@ -26,13 +26,9 @@ module _ {X : Type 0} where
   rising_in P R S h [] a r = tt
   rising_in P R S h (x ∷ l) a r = (All-weaker _ _ (λ y k. h x y a.0 k.0 k.1) l (all_both P (R x) l a.1 r.0), rising_in P R S h l a.1 r.1)
 
-  all_onto : {Y : Type 0} (f : X → Y) (P : Y → Type 0) (l : List X) → AllByRecursion (λ x. P (f x)) l → AllByRecursion P (map f l)
-  all_onto f P [] a = tt
-  all_onto f P (x ∷ l) a = (a.0, all_onto f P l a.1)
-
   pub rising_map : {Y : Type 0} (f : X → Y) (R : Y → Y → Type 0) (l : List X) → Rising (λ x y. R (f x) (f y)) l → Rising R (map f l)
   rising_map f R [] a = tt
-  rising_map f R (x ∷ l) a = (all_onto f (R (f x)) l a.0, rising_map f R l a.1)
+  rising_map f R (x ∷ l) a = (All-map (R (f x)) f l a.0, rising_map f R l a.1)
 
 -- what a list has by name, its names have
 pub names_have : (l : List Node) (y : Name) → has_node l y ≡ true → y ∈ node_names l
