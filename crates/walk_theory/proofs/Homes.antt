@@ -186,19 +186,9 @@ module _ (before : Name → Name → Bool) (o : Ordered before) (b : Tree) (gb :
     q_x = origin_like _ _ (λ y h. (part_named before o X g_x v cl y h).0) p qv
 
     -- the gap's own place is p, or something of the base hangs there
-    gap_or : (home_in before b p ≡ p) ⊎ ((k : Node) × (k ∈ b) × (k.attachment ≡ p)) → ((m : Node) → m ∈ XV → m.attachment ≡ p → ⊥) → home_in before b p ≡ p
-    gap_or (inl e) z = e
-    gap_or (inr k) z = absurd (z k.0 (base_in k.0 k.1) k.2)
-
-    base_put : Origin (has_node b) p → (home_in before b p ≡ p) ⊎ ((k : Node) × (k ∈ b) × (k.attachment ≡ p))
-    base_put q = elim (home_put before o b gb p q) [
-      | plain f z ↦ inl f
-      | led n ns w f kd k j e ↦ inr (k, j, e)
-    ]
-
     bare_moved : ((m : Node) → m ∈ XV → m.attachment ≡ p → ⊥) → attached_over before b p ≡ p
     bare_moved z = elim sp [
-      | gap k q e ↦ e ∙ gap_or (base_put q) z
+      | gap k q e ↦ e ∙ elim (home_put before o b gb p q) [ plain f w ↦ f | led n ns w f kd m j u ↦ absurd (z m (base_in m j) u) ]
       | out k e ↦ e
     ]
 

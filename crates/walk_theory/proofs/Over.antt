@@ -377,7 +377,7 @@ module _ (before : Name → Name → Bool) (o : Ordered before) (b : Tree) (gb :
     ]
       where
         aside_late' : (m : Name) → has_node b m ≡ true → not (path_before before (path (G later) m) (path (G later) y)) ≡ path_before before (path (G later) y) (path (G later) m)
-        aside_late' m h = sym (either before o (G later) (grown_over_lem later l) y m (named_late later y n) (named_base later m h) (λ e. both_ways _ (late_new later l y n) (rw (← e) at h)))
+        aside_late' m h = let e = aside_late later l y m n h in grind (arith, e)
 
         go : (q : Attachment) → Origin kept q → (m : Name) → has_node b m ≡ true → Beside q m i.hole → not (path_before before (path (G later) m) (path (G later) y)) ≡ beside_owner before (G later) q y
         go root k m h v = ap not (i.low m h ∙ v)
