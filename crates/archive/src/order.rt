@@ -2,7 +2,7 @@
 ghost use Rattle.std.specs.Prelude.{◌≡◌, false, length, is_ok};
 ghost use Rattle.archive.specs.Archived.{ArchiveAnswer};
 
-use crate::by_name::ByName;
+use crate::by_name::{ByName, Lent};
 use crate::unwritten::write_events;
 use crate::work_list::WorkList;
 use events::{BookFault, Name, SiblingOrder};
@@ -30,7 +30,9 @@ pub fn archive_order<S: EventStore, O: SiblingOrder>(
     if names.len() < needed {
         return Err(BookFault::Short { needed });
     }
-    let order = ByName { order };
+    let order = ByName {
+        order: Lent { order },
+    };
     let mut work = WorkList::over(work, store.capacity(), needed);
     let mut queue = Queue::over(names, &order);
     Ok(write_events(store, &mut work, &mut queue))
