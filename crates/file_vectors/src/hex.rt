@@ -3,11 +3,15 @@ ghost use Rattle.std.specs.Prelude.{◌<◌};
 
 use std::alloc::{AllocError, Global};
 
-// The value of a digit; what is none counts as 0.
+// The value of a digit; what is none counts as 0. The table has small letters alone: `to_digit` would read capitals too.
 fn digit(b: u8) -> u8
     ensures { result < 16 }
 {
-    char::from(b).to_digit(16).unwrap_or(0) as u8
+    match b {
+        b'0'..=b'9' => b - b'0',
+        b'a'..=b'f' => b - b'a' + 10,
+        _ => 0,
+    }
 }
 
 // The bytes of a row of digits, two for each; `-` is no bytes.
