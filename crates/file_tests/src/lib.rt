@@ -25,6 +25,7 @@ pub fn answer(heap: Global, bytes: Vec<u8>) -> Result<usize, Reason> {
 #[cfg(test)]
 mod tests {
     use super::*;
+    use event_file::write;
     use events::{BookFault, Character, Name, Position};
     use std::test::Fail;
 
@@ -71,6 +72,42 @@ mod tests {
             0,
         ];
         file(heap, 0x1000_0002, &[first, part], 0xf000_0012)
+    }
+
+    // The events of a file are gathered in a list, and that list is written as the same file.
+    #[test]
+    fn events_are_gathered_and_written(rt: HostRuntime) -> Result<(), Fail> {
+        let words = [
+            0x1000_0002,
+            0x2000_0000,
+            0x4000_0048,
+            0x5000_0001,
+            0x6000_0000,
+            0,
+            0,
+            0,
+            0,
+            0x3000_0000,
+            0,
+            0x5000_0002,
+            0x6000_0007,
+            0x7000_0000,
+            0,
+            0,
+            0,
+            0xf000_0012,
+        ];
+        let bytes = bytes_of(rt.alloc(), &words)?;
+        let view = FileView::read(rt.alloc(), bytes, &AuthorFirst).ok();
+        assert!(rt; view.is_some());
+        if let Some(view) = view {
+            let events = view.events(rt.alloc())?;
+            assert_eq!(rt; events.len(), 2);
+            let mut out = [9; 72];
+            assert_eq!(rt; write(&events, &AuthorFirst, &mut out), Ok(72));
+            assert!(rt; out.as_slice() == view.bytes());
+        }
+        Ok(())
     }
 
     #[test]

@@ -21,6 +21,12 @@ length_at_place f [] i = refl
 length_at_place f (x ∷ xs) zero = refl
 length_at_place f (x ∷ xs) (suc i) = ap suc (length_at_place f xs i)
 
+-- a change that keeps each character keeps all
+pub characters_at_place : (f : Entry → Entry) → ((e : Entry) → (f e).character ≡ e.character) → (xs : List Entry) (i : ℕ) → characters (at_place f xs i) ≡ characters xs
+characters_at_place f keeps [] i = refl
+characters_at_place f keeps (x ∷ xs) zero = ap (λ c. c ∷ characters xs) (keeps x)
+characters_at_place f keeps (x ∷ xs) (suc i) = ap (λ cs. x.character ∷ cs) (characters_at_place f keeps xs i)
+
 -- a write that leaves the character as it is
 characters_set : (xs : List Entry) (i : ℕ) (e d : Entry) → e.character ≡ (get_or xs i d).character → characters (set xs i e) ≡ characters xs
 characters_set [] i e d same = refl

@@ -51,8 +51,11 @@ impl PositionIndex for AvlIndex {
     }
 
     fn present_before(&self, place: usize) -> Option<usize> {
-        // no `then`: the proof does not see what its closure answers, and `present_below` has an answer at any place
-        (place <= self.nodes.len()).then_some(present_below(&self.nodes, self.root, place))
+        // a guard, and no `then_some`, which would go down the tree for a place that has no answer
+        if place > self.nodes.len() {
+            return None;
+        }
+        Some(present_below(&self.nodes, self.root, place))
     }
 
     fn put(&mut self, place: usize, entry: Entry) -> bool {

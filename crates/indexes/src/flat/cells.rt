@@ -4,15 +4,19 @@ ghost use Rattle.indexes.specs.Changes.{trimmed};
 
 use crate::entry::{Attachment, Entry};
 
-/// Drops the gone entries and renews the others, which become one chain on the right of the root.
+/// Moves each present entry to the front, renewed, in one pass; the others go. What is kept becomes one chain on the
+/// right of the root.
 pub fn trim_cells(cells: &mut Vec<Entry>)
     ensures after { cells.new.items ≡ trimmed cells.old.items }
     ensures kept { vec_capacity cells.new ≡ vec_capacity cells.old }
 {
-    cells.retain(|entry| entry.is_present());
     let mut attachment = Attachment::Root;
-    for entry in cells.iter_mut() {
-        *entry = entry.renewed(attachment);
-        attachment = Attachment::RightOf(entry.character);
-    }
+    cells.retain_mut(|entry| {
+        let present = entry.is_present();
+        if present {
+            *entry = entry.renewed(attachment);
+            attachment = Attachment::RightOf(entry.character);
+        }
+        present
+    });
 }
