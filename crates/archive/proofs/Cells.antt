@@ -1,10 +1,12 @@
 -- What the writes to the work list leave in its four parts.
-use Rattle.std.proofs.Common.{◌≡◌, ℕ, ◌+◌, ◌*◌, ◌<◌, ◌≤◌, List, length, get_or, take, set, sym, ap, ◌∙◌, arith, length-set}
+use Rattle.std.proofs.Common.{◌≡◌, ℕ, ◌+◌, ◌*◌, ◌<◌, ◌≤◌, List, length, get_or, take, set, sym, ap, ◌∙◌, inl, inr, arith, length-set}
 use Rattle.std.proofs.lemmas.Grind.{get_or-set_at}
-use Rattle.std.proofs.lemmas.List.{get_or-set_other, get_or-take}
+use Rattle.std.proofs.lemmas.List.{get_or-set_other, get_or-take, take-set-le}
+use Rattle.std.proofs.lemmas.Bool.{cases_lt}
 use Rattle.events.specs.Parts.{StoredEvent}
 use Rattle.events.specs.WellFormed.{WellFormed}
-use Rattle.archive.specs.Parts.{first_of}
+use Rattle.archive.specs.Parts.{none, first_of}
+use Rattle.archive.specs.Calls.{Cleared}
 use Rattle.archive.proofs.Placing.{Hung}
 
 -- two writes: to another cell, to the first, and to the second
@@ -17,6 +19,22 @@ module _ (cells : List ℕ) (a b u v : ℕ) where
 
   pub second_write : (j : ℕ) → j ≡ b → b < length cells → get_or (set (set cells a u) b v) j 0 ≡ v
   second_write j m l = get_or-set_at (set cells a u) b j v 0 m (let k = length-set cells a u in omega (arith, k, l))
+
+  pub front_kept : (n : ℕ) → n ≤ a → n ≤ b → take n (set (set cells a u) b v) ≡ take n cells
+  front_kept n m l = take-set-le n (set cells a u) b v l ∙ take-set-le n cells a u m
+
+pub cleared_more : (cells : List ℕ) (room e : ℕ) → 4 * room ≤ length cells → e < room → Cleared cells room e → Cleared (set (set cells (room + e) none) (2 * room + e) none) room (e + 1)
+cleared_more cells room e l m h j k = elim (cases_lt j e) [
+  | inl i ↦
+      let r = h j i in (
+        neither cells (room + e) (2 * room + e) none none (room + j) (λ z. omega arith) (λ z. omega arith) ∙ r.0,
+        neither cells (room + e) (2 * room + e) none none (2 * room + j) (λ z. omega arith) (λ z. omega arith) ∙ r.1,
+      )
+  | inr i ↦ (
+    first_write cells (room + e) (2 * room + e) none none (room + j) (omega arith) (λ z. omega arith) (omega arith),
+    second_write cells (room + e) (2 * room + e) none none (2 * room + j) (omega arith) (omega arith),
+  )
+]
 
 -- the same front is the same cells there
 pub front_cell : (cells cells' : List ℕ) (n i : ℕ) → take n cells' ≡ take n cells → i < n → get_or cells' i 0 ≡ get_or cells i 0

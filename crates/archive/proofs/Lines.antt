@@ -89,6 +89,11 @@ module _ (es : List StoredEvent) (wf : WellFormed es) (room : ℕ) (inside : len
   first_in_hand cells w [] c n = absurd (n c)
   first_in_hand cells w (v ∷ vs) c n = (vs, ap (λ u. u ∷ vs) (sym c.0), subst (λ u. Chain room cells (behind_of room cells u) vs) (sym c.0) c.1)
 
+  pub first_below : (cells : List ℕ) (queue : List Name) (len w : ℕ) → Handed es room cells queue len w → (w ≡ none → ⊥) → w < length es
+  first_below cells queue len w h n =
+      let r = first_in_hand cells w h.1 h.3 n in
+      (h.2.hands w (subst (λ ws. 1 ≤ times_numbered ws w) (sym r.1) (elim (one_number w w) [ inl s ↦ let k = s.1 in omega (arith, k) | inr s ↦ absurd (s.0 refl) ]))).0
+
   pub handed_more : (cells : List ℕ) (queue : List Name) (len w : ℕ) (cells' : List ℕ) (queue' : List Name) (len' : ℕ)
       → (h : Handed es room cells queue len w) → (w ≡ none → ⊥) → Placed es room w cells queue len cells' queue' len'
       → (g : Handed es room cells' queue' len' (behind_of room cells w)) × (suc (length g.1) ≡ length h.1)

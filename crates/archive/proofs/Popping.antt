@@ -1,11 +1,12 @@
 -- What a pop says of the names in the queue.
-use Rattle.std.proofs.Common.{◌≡◌, ℕ, ◌+◌, ◌<◌, ◌≤◌, Bool, false, cond, List, [], ◌∷◌, ◌++◌, length, take, sym, refl, ◌∙◌, subst, inl, inr, arith}
+use Rattle.std.proofs.Common.{◌≡◌, ℕ, ◌+◌, ◌<◌, ◌≤◌, Bool, false, cond, ltb, leb, List, [], ◌∷◌, ◌++◌, length, take, sym, refl, ◌∙◌, subst, inl, inr, arith}
 use Rattle.std.specs.List.Sorted.{IsPermutation}
 use Rattle.std.proofs.lemmas.List.{length-take-le, get_or-take}
+use Rattle.std.proofs.lemmas.Bool.{and_cases, ltb-false, leb-false}
 use Rattle.events.specs.declared.name.Name.{Name}
 use Rattle.fugue.specs.Names.{same}
 use Rattle.fugue.proofs.Lists.{has_member}
-use Rattle.queue.specs.Heaps.{Leads}
+use Rattle.queue.specs.Heaps.{Leads, queued}
 use Rattle.archive.specs.Times.{times_named}
 use Rattle.archive.proofs.Counting.{one_name, in_named, named_shuffled, named_append}
 
@@ -27,3 +28,10 @@ leads_named before cells len x l leads y i =
     let b = h.1 in
     let less : h.0 < len = omega (arith, b, t) in
     subst (λ z. before z x ≡ false) (sym (get_or-take len cells h.0 x less) ∙ h.2 x) (leads h.0 x less)
+
+-- a queue that gives nothing has nothing
+pub empty_queue : (cells : List Name) (len : ℕ) → len ≤ length cells → false ≡ queued cells len → len ≡ 0
+empty_queue cells len l h = elim (and_cases (ltb 0 len) (leb len (length cells)) (sym h)) [
+  | inl e ↦ let b = ltb-false 0 len e in omega (arith, b)
+  | inr e ↦ let b = leb-false len (length cells) e in absurd (omega (arith, b, l))
+]

@@ -5,11 +5,13 @@ use Rattle.std.specs.List.{slice_get}
 use Rattle.std.specs.Option.{option_map, option_flatten}
 use Rattle.events.specs.declared.name.Name.{Name}
 use Rattle.events.specs.Parts.{StoredEvent}
+use Rattle.events.specs.WellFormed.{WellFormed}
 use Rattle.stores.specs.Questions.{name_at, parents_at, parent_at}
 use Rattle.stores.specs.Together.{some_is, none_some}
 use Rattle.fugue.specs.Names.{◌∈◌}
 use Rattle.archive.specs.Times.{times_named}
 use Rattle.archive.proofs.Counting.{fewer_names, named_in}
+use Rattle.std.proofs.lemmas.Option.{slice_get_within}
 
 pub event_with : {X : Type 0} (f : StoredEvent → X) (o : Option StoredEvent) (x : X) → option_map f o ≡ Some x → (e : StoredEvent) × (o ≡ Some e) × (f e ≡ x)
 event_with f None x h = absurd (none_some h)
@@ -23,6 +25,13 @@ nth_some (y ∷ xs) (suc n) h = nth_some xs n (omega arith)
 pub event_with_parent : (o : Option StoredEvent) (k p : ℕ) → option_flatten (option_map (λ ps. slice_get ps k) (option_map (λ (e : StoredEvent). e.parents) o)) ≡ Some p → (e : StoredEvent) × (o ≡ Some e) × (slice_get e.parents k ≡ Some p)
 event_with_parent None k p h = absurd (none_some h)
 event_with_parent (Some e) k p h = (e, refl, h)
+
+pub parent_few : (es : List StoredEvent) → WellFormed es → (w k p : ℕ) → parent_at es w k ≡ Some p → k < 4
+parent_few es f w k p h =
+    let r = event_with_parent (slice_get es w) k p h in
+    let l = slice_get_within r.0.parents k p r.2 in
+    let m = (f.parents w r.0 r.1).few in
+    omega (arith, l, m)
 
 -- parent k of an event is parent k of the list of its parents
 pub parent_in : (es : List StoredEvent) (e : ℕ) (ps : List ℕ) → Some ps ≡ parents_at es e → (k : ℕ) → parent_at es e k ≡ slice_get ps k

@@ -3,7 +3,7 @@ use Rattle.std.proofs.Common.{◌≡◌, ℕ, zero, suc, Bool, true, false, cond
 use Rattle.std.specs.Option.{option_map}
 use Rattle.std.specs.List.{flat_map, AllByRecursion, slice_get}
 use Rattle.std.proofs.lemmas.Bool.{both_ways, cond_both, or_right, or_left, or_cases}
-use Rattle.std.proofs.ByRecursion.{all_kept_by}
+use Rattle.std.proofs.ByRecursion.{all_kept_by, All-weaker}
 use Rattle.std.proofs.lemmas.Bool.{false_from_ne_true}
 use Rattle.events.specs.declared.name.Name.{Name}
 use Rattle.events.specs.declared.character.Character.{Character}
@@ -16,7 +16,7 @@ use Rattle.fugue.specs.Tree.{Attachment, Node, Tree, sequence, only, AttachedTo,
 use Rattle.fugue.specs.Placements.{Placement, inserted, deleted, beyond, Placed, node_of, nodes, LeftOrigin, start, node, left_origin, right_end_of, after, following, attached_by, part_of, visible, attachment_after, placement, placements, seen, placement_in, tree_at, tree}
 use Rattle.fugue.proofs.Lists.{all_member, all_members, kept_twice}
 use Rattle.fugue.proofs.Names.{same_name, same_own, has_in, in_has}
-use Rattle.fugue.proofs.Grown.{has_node_append, has_node, has_own, attached_like, ClosedPart, only_has, grown_only}
+use Rattle.fugue.proofs.Grown.{has_node_append, has_node, has_own, attached_like, ClosedPart, only_has, grown_only, inside}
 use Rattle.fugue.proofs.Sequences.{all_sequence}
 use Rattle.fugue.proofs.Nested.{sequence_part}
 use Rattle.fugue.proofs.Versions.{reach, reach_parent, version_cases, version_older, version_held, version_mono}
@@ -207,6 +207,9 @@ module _ (before : Name → Name → Bool) where
 
   pub grown_part : (log : NewestFirst) → Distinct log → (heads : List Name) → Grown (tree_at before log heads)
   grown_part log u heads = rw (tree_part log heads) (grown_only (has (version log heads)) (tree before log) (grown_log log u) (closed_log log u heads))
+
+  pub inside_part : (log : NewestFirst) → Distinct log → (heads : List Name) → AllByRecursion (λ n. AttachedTo (has_node (tree_at before log heads)) n.attachment) (tree_at before log heads)
+  inside_part log u heads = All-weaker _ _ (λ n h. h.1) (tree_at before log heads) (inside (tree_at before log heads) (grown_part log u heads))
 
   module _ (o : Ordered before) where
     -- a version's sequence by that of the whole log

@@ -132,14 +132,17 @@ meets_bare ns bare x y zero (suc e) k p q =
 meets_bare ns bare x y (suc d) e k p q =
     let b = step_back ns (turn_of x d) (place ns x d) k p in absurd (bare b.0 (turn_of x d) k b.2)
 
-pub sound_none : (ns : List Node) → ns ≡ [] → ∥ Sound ns ∥₁
-sound_none ns e =
-    let none : Sound [] = record {
-      rising = λ k b j h. cc;
-      walked = λ k x h. cc;
-      meets = meets_bare [] (λ m b j h. cc);
-      apart = λ i j x h f. cc;
-    } in ∣ subst Sound (sym e) none ∣₁
+pub sound_none : Sound []
+sound_none = record {
+  rising = λ k b j h. cc;
+  walked = λ k x h. cc;
+  meets = meets_bare [] (λ m b j h. cc);
+  apart = λ i j x h f. cc;
+}
+
+-- the same of a list that is empty
+pub sound_empty : (ns : List Node) → ns ≡ [] → ∥ Sound ns ∥₁
+sound_empty ns e = ∣ subst Sound (sym e) sound_none ∣₁
 
 leaf_bare : (x : Name) (m : ℕ) (b : Bool) (j : ℕ) → link_at (leaf x ∷ []) m b ≡ Some j → ⊥
 leaf_bare x zero true j e = none-some _ e

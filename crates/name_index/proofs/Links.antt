@@ -10,6 +10,11 @@ use Rattle.name_index.specs.Walks.{leaf, linked, link_at, name_of}
 
 -- ---- places of a list
 
+pub nth_push : {X : Type 0} (xs : List X) (y x : X) (i : ℕ) → slice_get xs i ≡ Some x → slice_get (xs ++ y ∷ []) i ≡ Some x
+nth_push [] y x i e = cc
+nth_push (z ∷ xs) y x zero e = e
+nth_push (z ∷ xs) y x (suc i) e = nth_push xs y x i e
+
 pub nth_push_cases : {X : Type 0} (xs : List X) (y x : X) (i : ℕ) → slice_get (xs ++ y ∷ []) i ≡ Some x → (slice_get xs i ≡ Some x) ⊎ ((i ≡ length xs) × (y ≡ x))
 nth_push_cases [] y x zero e = inr (refl, same_Some _ _ e)
 nth_push_cases [] y x (suc i) e = cc

@@ -1,7 +1,8 @@
 -- What the difference says of one event against others, and of a version against none.
-use Rattle.std.proofs.Common.{◌≡◌, ℕ, zero, suc, ◌-◌, ◌<◌, ◌≤◌, ◌↔◌, List, [], ◌∷◌, length, get_or, take, drop, Some, sym, refl, ap, ◌∙◌, subst, inl, inr, arith}
+use Rattle.std.proofs.Common.{◌≡◌, ℕ, zero, suc, ◌+◌, ◌-◌, ◌<◌, ◌≤◌, ◌↔◌, List, [], ◌∷◌, length, get_or, take, drop, Some, sym, refl, ap, ◌∙◌, subst, inl, inr, arith}
 use Rattle.std.specs.List.{slice_get}
-use Rattle.std.proofs.lemmas.List.{take_rest}
+use Rattle.std.proofs.lemmas.List.{get_or-drop, length-drop, take_rest}
+use Rattle.std.proofs.lemmas.Option.{same_Some, slice_get_within, slice_get-get_or}
 use Rattle.events.specs.Parts.{StoredEvent}
 use Rattle.versions.specs.Versions.{Head, InVersion, head, parent, OnlyIn}
 use Rattle.versions.specs.Difference.{Known, Differ}
@@ -40,6 +41,17 @@ module _ {es : List StoredEvent} where
   from_head y h (head {x} (zero, e) l) = head (h.0, h.1 ∙ e) l
   from_head y h (head {x} (suc k, e) l) = absurd (none_head x k e)
   from_head y h (parent i p) = parent (from_head y h i) p
+
+-- the list from a place on
+pub head_rest : (xs : List ℕ) (m y : ℕ) → Head (take (length xs - m) (drop m xs)) y → (j : ℕ) × (m ≤ j) × (slice_get xs j ≡ Some y)
+head_rest xs m y h =
+    let at : slice_get (drop m xs) h.0 ≡ Some y = ap (λ l. slice_get l h.0) (sym (take_rest xs m)) ∙ h.1 in
+    let low = slice_get_within (drop m xs) h.0 y at in
+    let is : get_or (drop m xs) h.0 0 ≡ y = same_Some _ _ (sym (slice_get-get_or (drop m xs) h.0 0 low) ∙ at) in (
+      m + h.0,
+      omega arith,
+      slice_get-get_or xs (m + h.0) 0 (omega (arith, length-drop m xs)) ∙ ap (λ z. Some z) (sym (get_or-drop m xs h.0 0) ∙ is),
+    )
 
 -- the list is its first event and those behind it
 abbrev pub later : List ℕ → List ℕ

@@ -1,10 +1,16 @@
 -- Counts: of the events with a mark, of a number in a list, and of a sum where one number's share changes.
 use Rattle.std.proofs.Common.{◌≡◌, ℕ, zero, suc, ◌+◌, ◌<◌, ◌≤◌, cond, not, ◌&&◌, eqb, ltb, List, [], ◌∷◌, sum_by, refl, inl, inr, arith}
 use Rattle.std.proofs.lemmas.List.Sums.{sum_by-cons}
-use Rattle.std.proofs.lemmas.Bool.{cases_eq}
+use Rattle.std.proofs.lemmas.Bool.{cases_eq, eq-eqb, ne_eqb}
 use Rattle.std.proofs.lemmas.Bool.Decides.{nat_tests}
 use Rattle.versions.specs.Marks.{marked_below}
 use Rattle.versions.specs.Searches.{copies}
+
+pub none_one : (m : ℕ) → m ≡ 0 → cond {A = ℕ} (eqb m 0) 0 1 ≡ 0
+none_one m e = rw (eq-eqb m 0 e)
+
+pub some_one : (m : ℕ) → (m ≡ 0 → ⊥) → cond {A = ℕ} (eqb m 0) 0 1 ≡ 1
+some_one m n = rw (ne_eqb m 0 n)
 
 pub marked_le : (m : ℕ → ℕ) (k : ℕ) → marked_below m k ≤ k
 marked_le m zero = omega arith
@@ -20,12 +26,9 @@ marked_none m none zero = refl
 marked_none m none (suc k) = grind (arith, nat_tests, none k, marked_none m none k)
 
 -- where the same events have marks
-pub marked_same : (m n : ℕ → ℕ) (k : ℕ) → ((x : ℕ) → x < k → eqb (n x) 0 ≡ eqb (m x) 0) → marked_below n k ≡ marked_below m k
+pub marked_same : (m n : ℕ → ℕ) (k : ℕ) → ((x : ℕ) → x < k → cond {A = ℕ} (eqb (n x) 0) 0 1 ≡ cond (eqb (m x) 0) 0 1) → marked_below n k ≡ marked_below m k
 marked_same m n zero same = refl
-marked_same m n (suc k) same =
-    let a = marked_same m n k (λ x l. same x (omega arith)) in
-    let b = same k (omega arith) in
-    cc
+marked_same m n (suc k) same = omega (arith, marked_same m n k (λ x l. same x (omega arith)), same k (omega arith))
 
 pub marked_more : (m n : ℕ → ℕ) (k e : ℕ) → e < k → m e ≡ 0 → (n e ≡ 0 → ⊥) → ((x : ℕ) → (x ≡ e → ⊥) → n x ≡ m x) → marked_below n k ≡ marked_below m k + 1
 marked_more m n zero e l z s same = absurd (omega arith)
@@ -35,6 +38,12 @@ marked_more m n (suc k) e l z s same = elim (cases_eq e k) [
       grind (arith, nat_tests)
   | inr d ↦ grind (arith, nat_tests, marked_more m n k e, same k)
 ]
+
+pub hit_yes : (y e : ℕ) → y ≡ e → cond {A = ℕ} (eqb y e) 1 0 ≡ 1
+hit_yes y e q = rw (eq-eqb y e q)
+
+pub hit_no : (y e : ℕ) → (y ≡ e → ⊥) → cond {A = ℕ} (eqb y e) 1 0 ≡ 0
+hit_no y e n = rw (ne_eqb y e n)
 
 -- a share of a sum over a list that has the number
 pub share_le : (f : ℕ → ℕ) (e : ℕ) (xs : List ℕ) → 0 < copies e xs → f e ≤ sum_by f xs

@@ -1,8 +1,17 @@
 -- What two marks joined say, and marks joined to those of one event after another.
 use Rattle.std.proofs.Common.{◌≡◌, ℕ, cond, eqb, ◌⊎◌, sym, ◌∙◌, subst, inl, inr, arith}
-use Rattle.std.proofs.lemmas.Bool.{cases_eq}
+use Rattle.std.proofs.lemmas.Bool.{cases_eq, eq-eqb, ne_eqb}
 use Rattle.std.proofs.lemmas.Bool.Decides.{nat_tests}
 use Rattle.versions.specs.Marks.{join, Spread}
+
+pub join_cases : (a m : ℕ) → ((a ≡ 0) × (join a m ≡ m)) ⊎ (((a ≡ m) × (join a m ≡ a)) ⊎ ((a ≡ 0 → ⊥) × (a ≡ m → ⊥) × (join a m ≡ 3)))
+join_cases a m = elim (cases_eq a 0) [
+  | inl e ↦ inl (e, rw (eq-eqb a 0 e))
+  | inr n ↦ elim (cases_eq a m) [
+    | inl e ↦ inr (inl (e, rw (ne_eqb a 0 n, eq-eqb a m e)))
+    | inr k ↦ inr (inr (n, k, rw (ne_eqb a 0 n, ne_eqb a m k)))
+  ]
+]
 
 pub join_some : (a m : ℕ) → (m ≡ 0 → ⊥) → join a m ≡ 0 → ⊥
 join_some a m nz z = grind (arith, nat_tests)

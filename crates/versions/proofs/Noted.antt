@@ -24,6 +24,14 @@ more s p = record { room = s.room; seen = s.seen + 1; queued = s.queued + 1; pen
 pub room_left : (w : List ℕ) (s : Counters) (e : ℕ) → Listed w s → e < s.room → marks w s e ≡ 0 → s.seen < s.room
 room_left w s e l in' none = omega (arith, l.seen, marked_lt (marks w s) s.room e in' none)
 
+-- the count of what is pending, where one mark changes
+pub recounted : (w : List ℕ) (s : Counters) (e m old t x y bound : ℕ) → Listed w s → e < bound → Queued w s bound → old ≡ marks w s e → t ≡ join old m → x ≡ one_sided t → y ≡ one_sided old → (y ≤ s.pending + x) × ((s.pending + x) - y + one_sided (marks w s e) ≡ s.pending + one_sided (join (marks w s e) m))
+recounted w s e m old t x y bound l low q o j a b =
+    let le = share w s l bound q e low in
+    let f : one_sided old ≡ one_sided (marks w s e) = ap one_sided o in
+    let g : one_sided t ≡ one_sided (join (marks w s e) m) = ap one_sided (j ∙ ap (λ z. join z m) o) in
+    (omega arith, omega arith)
+
 module _ (w : List ℕ) (s : Counters) (e m p : ℕ) (l : Listed w s) (in' : e < s.room) (nz : m ≡ 0 → ⊥) where
   -- it had a mark
   module _ (some : marks w s e ≡ 0 → ⊥) (is : p + one_sided (marks w s e) ≡ s.pending + one_sided (join (marks w s e) m)) where
@@ -44,7 +52,7 @@ module _ (w : List ℕ) (s : Counters) (e m p : ℕ) (l : Listed w s) (in' : e <
       listed = record {
         size = omega (arith, l.size, length-set w (3 * s.room + e) (join (marks w s e) m));
         small = l.small;
-        seen = l.seen ∙ sym (marked_same (marks w s) (marks changed (again s p)) s.room (λ x b. joined_some e m (marks w s) (marks changed (again s p)) nz marks_then some x));
+        seen = l.seen ∙ sym (marked_same (marks w s) (marks changed (again s p)) s.room (λ x b. ap (λ y. cond y 0 1) (joined_some e m (marks w s) (marks changed (again s p)) nz marks_then some x)));
         within = l.within;
       };
       room = refl;

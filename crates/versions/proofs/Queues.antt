@@ -1,8 +1,8 @@
 -- What the queue of a search holds, and that it does not depend on the cells behind it.
-use Rattle.std.proofs.Common.{◌≡◌, ℕ, ◌+◌, ◌-◌, ◌<◌, ◌≤◌, ltb, List, [], ◌∷◌, length, get_or, take, drop, sym, ap, ◌∙◌, subst, inl, inr, arith}
+use Rattle.std.proofs.Common.{◌≡◌, ℕ, ◌+◌, ◌-◌, ◌<◌, ◌≤◌, eqb, ltb, List, [], ◌∷◌, length, get_or, take, drop, sym, ap, ◌∙◌, subst, inl, inr, arith}
 use Rattle.std.proofs.lemmas.List.{get_or-drop, length-take-le}
 use Rattle.std.proofs.lemmas.List.Sums.{sum_by-cons}
-use Rattle.std.proofs.lemmas.Bool.{cases_eq}
+use Rattle.std.proofs.lemmas.Bool.{cases_eq, eq-eqb, ne_eqb, or_from, or_left, or_right}
 use Rattle.std.proofs.lemmas.Bool.Decides.{nat_tests}
 use Rattle.queue.specs.Heaps.{Heaped, parent}
 use Rattle.versions.specs.declared.counters.Counters.{Counters}
@@ -17,6 +17,18 @@ at_behind w v n k same l =
 
 pub seen_le : (w : List ℕ) (s : Counters) → Listed w s → s.seen ≤ s.room
 seen_le w s l = omega (arith, l.seen, marked_le (marks w s) s.room)
+
+pub sided_none : (m : ℕ) → m ≡ 0 → one_sided m ≡ 0
+sided_none m z = rw (or_from (eqb m 1) (eqb m 2) (ne_eqb m 1 (λ q. omega arith)) (ne_eqb m 2 (λ q. omega arith)))
+
+pub sided_first : (m : ℕ) → m ≡ 1 → one_sided m ≡ 1
+sided_first m q = rw (or_left (eqb m 1) (eqb m 2) (eq-eqb m 1 q))
+
+pub sided_second : (m : ℕ) → m ≡ 2 → one_sided m ≡ 1
+sided_second m q = rw (or_right (eqb m 1) (eqb m 2) (eq-eqb m 2 q))
+
+pub sided_both : (m : ℕ) → (m ≡ 1 → ⊥) → (m ≡ 2 → ⊥) → one_sided m ≡ 0
+sided_both m a b = rw (or_from (eqb m 1) (eqb m 2) (ne_eqb m 1 a) (ne_eqb m 2 b))
 
 pub sided_le : (m : ℕ) → one_sided m ≤ 1
 sided_le m = grind (arith, nat_tests)

@@ -3,7 +3,7 @@ use Rattle.std.proofs.Common.{◌≡◌, ℕ, ◌+◌, ◌<◌, ◌≤◌, ◌�
 use Rattle.std.specs.List.{slice_get}
 use Rattle.std.specs.Option.{option_map, option_flatten}
 use Rattle.std.proofs.lemmas.Bool.{cases_eq}
-use Rattle.std.proofs.lemmas.Option.{slice_get_within}
+use Rattle.std.proofs.lemmas.Option.{slice_get_within, none-some}
 use Rattle.events.specs.Parts.{StoredEvent}
 use Rattle.events.specs.WellFormed.{WellFormed}
 use Rattle.stores.specs.Questions.{parents_at, parent_at}
@@ -74,12 +74,27 @@ module _ {m : ℕ} {w : List ℕ} {s : Counters} where
     kept = a.kept;
   }
 
+  pub noted_skip : {v : List ℕ} {r : Counters} (f : ℕ → Option ℕ) (k : ℕ) → f k ≡ None → Noted (Among f k) m w s v r → Noted (Among f (k + 1)) m w s v r
+  noted_skip f k at a = noted_same (Among f k) (Among f (k + 1)) (λ x. (
+    (λ h. (h.0, omega (arith, h.1), h.2)),
+    (λ h. (h.0, elim (cases_eq h.0 k) [ inl q ↦ absurd (none-some _ (sym at ∙ ap f (sym q) ∙ h.2)) | inr n ↦ omega (arith, h.1) ], h.2)),
+  )) a
+
 pub all_heads : (xs : List ℕ) (k : ℕ) → length xs ≤ k → (x : ℕ) → Among (slice_get xs) k x ↔ Head xs x
 all_heads xs k long x = ((λ h. (h.0, h.2)), (λ h. (h.0, omega (arith, slice_get_within xs h.0 x h.1), h.1)))
 
 pub from_parents : (o : Option StoredEvent) (k p : ℕ) → option_flatten (option_map (λ ps. slice_get ps k) (option_map (λ (e : StoredEvent). e.parents) o)) ≡ Some p → (e : StoredEvent) × (o ≡ Some e) × (slice_get e.parents k ≡ Some p)
 from_parents None k p h = cc
 from_parents (Some e) k p h = (e, refl, h)
+
+-- an event has four parents at most
+pub all_parents : (es : List StoredEvent) → WellFormed es → (y k : ℕ) → 4 ≤ k → (x : ℕ) → Among (parent_at es y) k x ↔ Parent es y x
+all_parents es fit y k four x = (
+  (λ h. (h.0, h.2)),
+  (λ h.
+      let e = from_parents (slice_get es y) h.0 x h.1 in
+      (h.0, omega (arith, slice_get_within e.0.parents h.0 x e.2, (fit.parents y e.0 e.1).few), h.1)),
+)
 
 -- the parents of an event, as the list of its parents
 pub parents_are : (es : List StoredEvent) (y : ℕ) (xs : List ℕ) → Some xs ≡ parents_at es y → (x : ℕ) → Head xs x ↔ Parent es y x

@@ -1,6 +1,6 @@
 -- One step of the search: the latest event is taken, written down, and its parents are marked.
 use Rattle.std.proofs.Common.{◌≡◌, ℕ, ◌+◌, ◌-◌, ◌<◌, ◌≤◌, cond, not, ◌&&◌, eqb, ltb, List, Some, length, get_or, take, drop, set, sym, refl, ap, ◌∙◌, subst, inl, inr, arith}
-use Rattle.std.proofs.lemmas.List.{get_or-set_same, get_or-set_other, take-set-le, drop-set-lt}
+use Rattle.std.proofs.lemmas.List.{get_or-set_same, get_or-set_other, take-set-le, length-set, drop-set-lt}
 use Rattle.std.proofs.lemmas.Bool.{cases_eq, cases_lt}
 use Rattle.events.specs.Parts.{StoredEvent}
 use Rattle.events.specs.WellFormed.{WellFormed}
@@ -9,10 +9,11 @@ use Rattle.versions.specs.declared.search.Search.{Search}
 use Rattle.versions.specs.declared.marks.Mark.{Mark}
 use Rattle.versions.specs.Versions.{Parent, parent, Enumerates}
 use Rattle.versions.specs.Marks.{Marked, one_sided, told}
-use Rattle.versions.specs.Searches.{marks, copies, open_in, Queued, Taken, Written, Noted, Knows, Stage, Stepped}
+use Rattle.versions.specs.Searches.{marks, copies, open_in, Listed, Queued, Taken, Written, Noted, Knows, Stage, Stepped}
 use Rattle.versions.specs.Held.{NotedBy, StageOf, TakenBy, WrittenBy, mark_held}
 use Rattle.versions.proofs.Reached.{parent_less, enumerates_same}
 use Rattle.versions.proofs.Cells.{mark_kept}
+use Rattle.versions.proofs.Counts.{marked_same}
 use Rattle.versions.proofs.Queues.{seen_le, heaped_same}
 use Rattle.versions.proofs.Taken.{sum_same}
 use Rattle.versions.proofs.Told.{told_written, told_noted}
@@ -26,6 +27,7 @@ more_second s = record { room = s.room; seen = s.seen; queued = s.queued; pendin
 
 -- what stands when the event is written down, and its parents are yet to be marked
 pub record Between (es : List StoredEvent) (w out : List ℕ) (s : Counters) (e : ℕ) (v new : List ℕ) (r : Counters) : Type 0 where
+  pub listed : Listed v r
   pub queued : Queued v r e
   pub same : (x : ℕ) → marks v r x ≡ marks w s x
   pub room : r.room ≡ s.room
@@ -66,11 +68,13 @@ module _ (es : List StoredEvent) (first second w out : List ℕ) (s : Counters) 
       (found_same (λ x. marks w s x ≡ 2) s.second e bound (λ i. get_or w (s.room - 1 - i) 0) (λ i. get_or v (t.room - 1 - i) 0) low (λ x. no_gap 2 x (λ z. omega arith)) back st.seconds
       (λ z. not (tk.mark.0 ∙ z)))
 
-  between_first : m ≡ 1 → Between es w out s e v (set out t.first e) (more_first t)
+  pub between_first : m ≡ 1 → Between es w out s e v (set out t.first e) (more_first t)
   between_first is =
       let f = tk.fields in
+      let l = tk.listed in
       let q = (tk.queued bound st.queued).1 in
       record {
+        listed = record { size = l.size; small = l.small; seen = l.seen; within = l.within };
         queued = record { heaped = q.heaped; once = q.once; pending = q.pending };
         same = tk.marks_same;
         room = f.0;
@@ -87,10 +91,11 @@ module _ (es : List StoredEvent) (first second w out : List ℕ) (s : Counters) 
         kept = drop-set-lt (t.first + 1) out t.first e (omega arith);
       }
 
-  between_neither : (m ≡ 1 → ⊥) → (m ≡ 2 → ⊥) → Between es w out s e v out t
+  pub between_neither : (m ≡ 1 → ⊥) → (m ≡ 2 → ⊥) → Between es w out s e v out t
   between_neither a b =
       let f = tk.fields in
       record {
+        listed = tk.listed;
         queued = (tk.queued bound st.queued).1;
         same = tk.marks_same;
         room = f.0;
@@ -118,13 +123,20 @@ module _ (es : List StoredEvent) (first second w out : List ℕ) (s : Counters) 
     marks_kept : (x : ℕ) → marks wrote (more_second t) x ≡ marks v t x
     marks_kept x = mark_kept v wrote t.room t.seen x (λ k b. get_or-set_other v (t.room - 1 - t.second) k e 0 (λ z. omega (arith, spot.1)))
 
-    between_second : Between es w out s e wrote out (more_second t)
+    pub between_second : Between es w out s e wrote out (more_second t)
     between_second =
         let f = tk.fields in
+        let l = tk.listed in
         let q = (tk.queued bound st.queued).1 in
         let here = spot in
         let front : take t.queued wrote ≡ take t.queued v = take-set-le t.queued v (t.room - 1 - t.second) e here.0 in
         record {
+          listed = record {
+            size = omega (arith, l.size, length-set v (t.room - 1 - t.second) e);
+            small = l.small;
+            seen = l.seen ∙ sym (marked_same (marks v t) (marks wrote (more_second t)) t.room (λ x b. ap (λ y. cond (eqb y 0) 0 1) (marks_kept x)));
+            within = l.within;
+          };
           queued = record {
             heaped = heaped_same v wrote t.queued (λ k d b. get_or-set_other v (t.room - 1 - t.second) k e d (λ z. omega arith)) q.heaped;
             once = λ x. ap (copies x) front ∙ q.once x ∙ ap (λ y. cond (not (eqb y 0) && ltb x e) 1 0) (sym (marks_kept x));
@@ -141,7 +153,7 @@ module _ (es : List StoredEvent) (first second w out : List ℕ) (s : Counters) 
               subst (λ n. Enumerates (n + 1) (λ i. get_or wrote (t.room - 1 - i) 0) (λ x. (marks w s x ≡ 2) × (e ≤ x))) (sym f.4)
               (found_more (λ x. marks w s x ≡ 2) s.second e bound (λ i. get_or w (s.room - 1 - i) 0) (λ i. get_or wrote (t.room - 1 - i) 0) low (λ x. no_gap 2 x (λ z. omega arith))
               (λ i b. get_or-set_other v (t.room - 1 - t.second) (t.room - 1 - i) e 0 (λ z. omega (arith, f.4, here.2)) ∙ back i b) st.seconds
-              (ap (λ n. get_or wrote (t.room - 1 - n) 0) (sym f.4) ∙ get_or-set_same v (t.room - 1 - t.second) e 0 (omega (arith, here.1, tk.listed.size))) (sym tk.mark.0 ∙ is));
+              (ap (λ n. get_or wrote (t.room - 1 - n) 0) (sym f.4) ∙ get_or-set_same v (t.room - 1 - t.second) e 0 (omega (arith, here.1, l.size))) (sym tk.mark.0 ∙ is));
           few = omega (arith, st.few, low, f.3, f.4);
           apart = omega (arith, st.apart, f.1, f.2, f.3, f.4);
           first = omega (arith, f.3);

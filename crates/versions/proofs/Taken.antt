@@ -42,7 +42,7 @@ module _ (w v : List ℕ) (s : Counters) (e p : ℕ) (l : Listed w s) (level : l
   listed_then = record {
     size = omega (arith, l.size, level);
     small = l.small;
-    seen = l.seen ∙ sym (marked_same (marks w s) (marks v (fewer s p)) s.room (λ x b. ap (λ y. eqb y 0) (same x)));
+    seen = l.seen ∙ sym (marked_same (marks w s) (marks v (fewer s p)) s.room (λ x b. ap (λ y. cond (eqb y 0) 0 1) (same x)));
     within = omega (arith, l.within);
   }
 
@@ -77,7 +77,7 @@ module _ (w v : List ℕ) (s : Counters) (e p : ℕ) (l : Listed w s) (level : l
         (sum_then (λ y. cond (eqb y x) 1 0)) (q.once x) (λ r z. was.1 (ap (marks w s) (sym r) ∙ z)) (gap x) (same x) was.0
 
     pub in_room : e < s.room
-    in_room = mark_some w s.room s.seen e was.1
+    in_room = (mark_some w s.room s.seen e was.1).0
 
     after : p + one_sided (marks w s e) ≡ s.pending → Queued v (fewer s p) e
     after is = record {

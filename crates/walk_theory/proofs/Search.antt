@@ -46,6 +46,10 @@ from_passes p (m ∷ l) n ns h = elim (cases_Bool (p m.name)) [
   | inr e ↦ from_passes p l n ns (rw e at h)
 ]
 
+pub until_none : (p : Name → Bool) (l : List Node) → AllByRecursion (λ n. p n.name ≡ false) (until p l)
+until_none p [] = tt
+until_none p (n ∷ ns) = let ih = until_none p ns in elim (cases_Bool (p n.name)) [ inl e ↦ rw e tt | inr e ↦ rw e (e, ih) ]
+
 from_first : (p : Name → Bool) (l : List Node) (n : Node) (ns : List Node) → only p l ≡ n ∷ ns → (r : List Node) × (from p l ≡ n ∷ r) × (p n.name ≡ true)
 unfolding from
 from_first p [] n ns h = absurd (grind arith)

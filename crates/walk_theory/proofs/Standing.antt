@@ -200,6 +200,9 @@ module _ (before : Name → Name → Bool) (o : Ordered before) (big small : Tre
   pub listed_from : (y : Name) → y ∈ node_names listed → has_node t y ≡ true
   listed_from y i = names_from before o t grown_t y (rw st.is_listed at i)
 
+  pub apart_listed : Rising (λ m n. m.name ≡ n.name → ⊥) listed
+  apart_listed = rw st.is_listed (apart before o t grown_t)
+
   module _ (keep : Name → Bool) where
     abbrev l : List Node
     l = only keep listed

@@ -1,5 +1,5 @@
-use Rattle.name_index.proofs.Growth.{sound_none}
+use Rattle.name_index.proofs.Growth.{sound_empty}
 use Rattle.name_index.proofs.index.NameIndex.with_room.Goals as goal
 
 pub invariant_of-result-clause-sound : goal.invariant_of-result-clause-sound
-invariant_of-result-clause-sound c = sound_none _ c.in_ok-nodes.ensures.items
+invariant_of-result-clause-sound c = sound_empty _ c.in_ok-nodes.ensures.items
