@@ -12,9 +12,10 @@ returns-then-seen-n c =
     let xs = c.deref-entry-items.result.now in
     let same = c.deref-entry-items.ensures.value in
     let counted = subst (λ ys. c.loop-place.seen ≡ count is_prepared (take c.loop-place.place ys)) (sym same) c.loop-place.invariant.0 in
+    let before : count is_prepared (take c.loop-place.place xs) ≡ c.args.n = omega (arith, counted, c.if-seen-n.true) in
     record {
       answer =
-          sym (find_at is_prepared xs c.loop-place.place _ c.loop-place-test.true (sym c.if-prepared_here.ensures)) ∙ ap (find is_prepared xs) (sym counted ∙ c.if-seen-n.true) ∙ ap (λ ys. find is_prepared ys c.args.n) same;
+          sym (find_at is_prepared xs c.loop-place.place _ c.loop-place-test.true (sym c.if-prepared_here.ensures)) ∙ ap (find is_prepared xs) before ∙ ap (λ ys. find is_prepared ys c.args.n) same;
     }
 
 pub loop-place-preserved : goal.loop-place-preserved
